@@ -1,0 +1,95 @@
+-- Records and their bytes, there and back.
+use mathlib.Core.Path.{_≡_, refl, sym, ap, ap₂, subst, _∙_}
+use mathlib.Core.Bool.{Bool, true, false, cond, _&&_}
+use mathlib.Core.List.{List, [], _∷_, _++_}
+use Prim.Native.Nat.{ℕ, zero, suc, _+_, _-_, _≤_, _<_}
+use native.Mathlib.Numerals.{one-add}
+use native.Mathlib.Omega.{arith}
+use lib.Dec.{leb}
+use lib.ListN.{length, getD, take, drop, length-append}
+use borrow.Author.Tests.{le-leb, leb-true, clash}
+use Rattle.std.proofs.shelf.Tests.{and-parts}
+use Rattle.std.specs.declared.option.Option.{Option}
+use Rattle.std.specs.declared.option.Option.the-variants.{Some, None}
+use Rattle.std.specs.declared.result.Result.{Result}
+use Rattle.std.specs.declared.result.Result.the-variants.{Ok, Err}
+use Rattle.journal.specs.declared.faults.ReadFault.{ReadFault}
+use Rattle.journal.specs.declared.faults.ReadFault.the-variants.{UnknownKind, CutShort}
+use Rattle.journal.specs.declared.kinds.Record.{Record}
+use Rattle.journal.specs.declared.kinds.Record.the-variants.{Open, Post, Correct, Close, Pay, Settle}
+use Rattle.journal.specs.Format.{kind, widths, fields, recordBytes, recordLength}
+use Rattle.journal.specs.Numbers.{numbers, bytes, total, Fit}
+use Rattle.journal.specs.Reading.{isKind, recordOf, readRecord, readFront, whole}
+use Rattle.journal.specs.Rounds.{BeginsWith}
+use Rattle.journal.proofs.Widths.{Bytes, length-bytes, numbers-bytes, bytes-numbers}
+
+-- what holds of the six kinds holds of every kind byte
+each-kind : (P : ℕ → Type 0) → P 1 → P 2 → P 3 → P 4 → P 5 → P 6 → (k : ℕ) → isKind k ≡ true → P k
+each-kind P a b c d e f zero h = absurd (clash h)
+each-kind P a b c d e f (suc zero) h = a
+each-kind P a b c d e f (suc (suc zero)) h = b
+each-kind P a b c d e f (suc (suc (suc zero))) h = c
+each-kind P a b c d e f (suc (suc (suc (suc zero)))) h = d
+each-kind P a b c d e f (suc (suc (suc (suc (suc zero))))) h = e
+each-kind P a b c d e f (suc (suc (suc (suc (suc (suc zero)))))) h = f
+each-kind P a b c d e f (suc (suc (suc (suc (suc (suc (suc k))))))) h =
+    absurd (omega (arith, leb-true _ 6 (and-parts (leb 1 (suc (suc (suc (suc (suc (suc (suc k)))))))) _ h .1)))
+
+-- the record that is made of a body's numbers has that kind and those numbers
+made-kind : (k : ℕ) → isKind k ≡ true → (ns : List ℕ) → kind (recordOf k ns) ≡ k
+made-kind k h ns =
+    each-kind (λ j. kind (recordOf j ns) ≡ j) refl refl refl refl refl refl k h
+
+made-fields : (k : ℕ) → isKind k ≡ true → (bs : List ℕ) → fields (recordOf k (numbers (widths k) bs 0)) ≡ numbers (widths k) bs 0
+made-fields k h bs =
+    each-kind (λ j. fields (recordOf j (numbers (widths j) bs 0)) ≡ numbers (widths j) bs 0) refl refl refl refl refl refl k h
+
+read-by : (known long : Bool) (m r : Record) → whole (cond known (cond long (Ok m) (Err CutShort)) (Err UnknownKind)) ≡ Ok (Some r) → (known ≡ true) × (long ≡ true) × (r ≡ m)
+read-by true true m r e = (refl, refl, cc)
+read-by true false m r e = absurd (let z : _≡_ {A = ℕ} 0 1 = cc in omega arith)
+read-by false true m r e = absurd (let z : _≡_ {A = ℕ} 0 1 = cc in omega arith)
+read-by false false m r e = absurd (let z : _≡_ {A = ℕ} 0 1 = cc in omega arith)
+
+-- the bytes begin with those of the record that is read from them
+pub begins-with : (bs : List ℕ) → Bytes bs → (o : Result (Option Record) ReadFault) → readFront bs ≡ o → BeginsWith bs o
+begins-with bs b (Ok None) e = tt
+begins-with bs b (Err f) e = tt
+begins-with [] b (Ok (Some r)) e = absurd (let z : _≡_ {A = ℕ} 0 1 = cc in omega arith)
+begins-with (k ∷ rest) b (Ok (Some r)) e =
+    let p = read-by (isKind k) (leb (total (widths k)) (length rest)) _ r e in
+    let long = leb-true (total (widths k)) (length rest) (p .1) in
+    let same : kind r ≡ k = ap kind (p .2) ∙ made-kind k (p .0) (numbers (widths k) rest 0) in
+    let size : recordLength r ≡ suc (total (widths k)) = ap (λ (j : ℕ). 1 + total (widths j)) same ∙ one-add (total (widths k)) in
+    ap₂ (λ (j : ℕ) (ns : List ℕ). j ∷ bytes (widths j) ns) same (ap fields (p .2) ∙ made-fields k (p .0) rest) ∙
+    ap (λ (l : List ℕ). k ∷ l) (bytes-numbers (widths k) 0 rest (λ i. b (suc i)) (omega (arith, long))) ∙
+    ap (λ (n : ℕ). take n (k ∷ rest)) (sym size)
+
+body-back : (k : ℕ) (ns rest : List ℕ) → isKind k ≡ true → Fit (widths k) ns → readRecord k (bytes (widths k) ns ++ rest) ≡ Ok (recordOf k ns)
+body-back k ns rest h f =
+    let size = length-append (bytes (widths k) ns) rest in
+    let long : leb (total (widths k)) (length (bytes (widths k) ns ++ rest)) ≡ true = le-leb _ _ (omega (arith, size, length-bytes (widths k) ns f)) in
+    rw (h, long) (ap (λ (l : List ℕ). Ok (recordOf k l)) (numbers-bytes (widths k) ns rest f))
+
+of-kind : (r : Record) → isKind (kind r) ≡ true
+of-kind (Open leap increase first last) = refl
+of-kind (Post day) = refl
+of-kind (Correct day) = refl
+of-kind (Close month index interruptible firm) = refl
+of-kind (Pay amount) = refl
+of-kind (Settle final interest) = refl
+
+of-fields : (r : Record) → recordOf (kind r) (fields r) ≡ r
+of-fields (Open leap increase first last) = refl
+of-fields (Post day) = refl
+of-fields (Correct day) = refl
+of-fields (Close month index interruptible firm) = refl
+of-fields (Pay amount) = refl
+of-fields (Settle final interest) = refl
+
+-- what a record's bytes begin, whatever stands behind them, is that record
+pub read-back : (r : Record) (rest : List ℕ) → Fit (widths (kind r)) (fields r) → readFront (recordBytes r ++ rest) ≡ Ok (Some r)
+read-back r rest f =
+    ap whole (body-back (kind r) (fields r) rest (of-kind r) f ∙ ap (λ (x : Record). Ok x) (of-fields r))
+
+pub length-recordBytes : (r : Record) → Fit (widths (kind r)) (fields r) → length (recordBytes r) ≡ recordLength r
+length-recordBytes r f = ap suc (length-bytes (widths (kind r)) (fields r) f) ∙ sym (one-add (total (widths (kind r))))

@@ -1,0 +1,65 @@
+-- The format of a record: a byte of kind, then a body whose length the kind fixes.
+-- Words: `kind`, the first byte; `widths`, the layout of a kind's body; `fields`, a record's numbers in the order of its bytes; `recordBytes`, its bytes.
+use mathlib.Core.Bool.{cond}
+use mathlib.Core.List.{List, [], _∷_}
+use Prim.Native.Nat.{ℕ, _+_}
+use lib.Dec.{eqb}
+use Rattle.journal.specs.Numbers.{bytes, total}
+use Rattle.journal.specs.declared.kinds.Day.{Day}
+use Rattle.journal.specs.declared.kinds.Record.{Record}
+use Rattle.journal.specs.declared.kinds.Record.the-variants.{Open, Post, Correct, Close, Pay, Settle}
+
+abbrev pub kind : Record → ℕ
+kind (Open leap increase first last) = 1
+kind (Post day) = 2
+kind (Correct day) = 3
+kind (Close month index interruptible firm) = 4
+kind (Pay amount) = 5
+kind (Settle final interest) = 6
+
+-- leap mark; per mille; first and last interim month
+abbrev pub openWidths : List ℕ
+openWidths = 1 ∷ 2 ∷ 1 ∷ 1 ∷ []
+
+-- month, day, day kind, curtailed mark; nomination, receipts, reading, therms after notice; supply cost, variance rate
+abbrev pub dayWidths : List ℕ
+dayWidths = 1 ∷ 1 ∷ 1 ∷ 1 ∷ 4 ∷ 4 ∷ 4 ∷ 4 ∷ 4 ∷ 4 ∷ []
+
+-- month; index, interruptible transport, firm transport
+abbrev pub closeWidths : List ℕ
+closeWidths = 1 ∷ 4 ∷ 4 ∷ 4 ∷ []
+
+-- payment
+abbrev pub payWidths : List ℕ
+payWidths = 8 ∷ []
+
+-- final per mille; interest per mille
+abbrev pub settleWidths : List ℕ
+settleWidths = 2 ∷ 2 ∷ []
+
+-- the layout of the body under each kind byte; no other byte is a kind
+abbrev pub widths : ℕ → List ℕ
+widths k =
+    cond (eqb k 1) openWidths
+    (cond (eqb k 2) dayWidths (cond (eqb k 3) dayWidths (cond (eqb k 4) closeWidths (cond (eqb k 5) payWidths (cond (eqb k 6) settleWidths [])))))
+
+abbrev pub dayFields : Day → List ℕ
+dayFields d =
+    d .month ∷ d .day ∷ d .kind ∷ d .curtailed ∷ d .nomination ∷ d .receipts ∷ d .reading ∷ d .«after_notice» ∷ d .«supply_cost» ∷ d .«variance_rate» ∷ []
+
+abbrev pub dayBytes : Day → List ℕ
+dayBytes d = bytes dayWidths (dayFields d)
+
+abbrev pub fields : Record → List ℕ
+fields (Open leap increase first last) = leap ∷ increase ∷ first ∷ last ∷ []
+fields (Post day) = dayFields day
+fields (Correct day) = dayFields day
+fields (Close month index interruptible firm) = month ∷ index ∷ interruptible ∷ firm ∷ []
+fields (Pay amount) = amount ∷ []
+fields (Settle final interest) = final ∷ interest ∷ []
+
+abbrev pub recordBytes : Record → List ℕ
+recordBytes r = kind r ∷ bytes (widths (kind r)) (fields r)
+
+abbrev pub recordLength : Record → ℕ
+recordLength r = 1 + total (widths (kind r))

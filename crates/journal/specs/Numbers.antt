@@ -1,0 +1,43 @@
+-- Numbers in bytes, the lowest byte first.
+-- Words: `number`, what some bytes stand for; `low`, the bytes of a number; `numbers`, `bytes`, the same of a row of numbers by their widths.
+use mathlib.Core.List.{List, [], _∷_, _++_}
+use Prim.Native.Nat.{ℕ, zero, suc, _+_, _*_, _/_, _%_, _<_}
+use lib.ListN.{getD}
+
+-- the number that the w bytes from place i on stand for
+abbrev pub number : List ℕ → ℕ → ℕ → ℕ
+number bs i zero = 0
+number bs i (suc w) = getD bs i 0 + 256 * number bs (suc i) w
+
+-- the numbers from place i on, by their widths in bytes
+abbrev pub numbers : List ℕ → List ℕ → ℕ → List ℕ
+numbers [] bs i = []
+numbers (w ∷ ws) bs i = number bs i w ∷ numbers ws bs (i + w)
+
+-- the lowest w bytes of a number
+abbrev pub low : ℕ → ℕ → List ℕ
+low zero n = []
+low (suc w) n = (n % 256) ∷ low w (n / 256)
+
+-- the bytes of a row of numbers, by their widths
+abbrev pub bytes : List ℕ → List ℕ → List ℕ
+bytes [] ns = []
+bytes (w ∷ ws) [] = []
+bytes (w ∷ ws) (n ∷ ns) = low w n ++ bytes ws ns
+
+-- how many bytes such a row takes
+abbrev pub total : List ℕ → ℕ
+total [] = 0
+total (w ∷ ws) = w + total ws
+
+-- one more than the largest number of w bytes
+abbrev pub limit : ℕ → ℕ
+limit zero = 1
+limit (suc w) = 256 * limit w
+
+-- as many numbers as widths, each within its width
+abbrev pub Fit : List ℕ → List ℕ → Type 0
+Fit [] [] = Unit {0}
+Fit [] (n ∷ ns) = ⊥
+Fit (w ∷ ws) [] = ⊥
+Fit (w ∷ ws) (n ∷ ns) = (n < limit w) × Fit ws ns

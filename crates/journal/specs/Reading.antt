@@ -1,0 +1,87 @@
+-- What is read at a place of any list of bytes.
+-- Words: `readBody`, the record of a kind from the bytes behind its kind byte; `readFront`, what a list of bytes begins with; `answer` and `after`, what a reader at a place answers and where it then stands.
+use mathlib.Core.Bool.{Bool, cond, _&&_}
+use mathlib.Core.List.{List, [], _∷_}
+use Prim.Native.Nat.{ℕ, _+_}
+use lib.Dec.{eqb, leb}
+use lib.ListN.{length, getD, drop}
+use Rattle.std.specs.declared.option.Option.{Option}
+use Rattle.std.specs.declared.option.Option.the-variants.{Some, None}
+use Rattle.std.specs.declared.result.Result.{Result}
+use Rattle.std.specs.declared.result.Result.the-variants.{Ok, Err}
+use Rattle.journal.specs.declared.faults.ReadFault.{ReadFault}
+use Rattle.journal.specs.declared.faults.ReadFault.the-variants.{UnknownKind, CutShort}
+use Rattle.journal.specs.declared.kinds.Day.{Day}
+use Rattle.journal.specs.declared.kinds.Record.{Record}
+use Rattle.journal.specs.declared.kinds.Record.the-variants.{Open, Post, Correct, Close, Pay, Settle}
+use Rattle.journal.specs.declared.kinds.Placed.{Placed}
+use Rattle.journal.specs.Format.{widths, dayWidths, recordLength}
+use Rattle.journal.specs.Numbers.{numbers, total}
+
+-- a kind byte is 1 to 6
+abbrev pub isKind : ℕ → Bool
+isKind k = leb 1 k && leb k 6
+
+-- the day whose numbers are given in the order of its bytes
+abbrev pub dayOf : List ℕ → Day
+dayOf ns = record {
+  month = getD ns 0 0;
+  day = getD ns 1 0;
+  kind = getD ns 2 0;
+  curtailed = getD ns 3 0;
+  nomination = getD ns 4 0;
+  receipts = getD ns 5 0;
+  reading = getD ns 6 0;
+  «after_notice» = getD ns 7 0;
+  «supply_cost» = getD ns 8 0;
+  «variance_rate» = getD ns 9 0;
+}
+
+-- the record of a kind whose numbers are given in the order of its bytes
+abbrev pub recordOf : ℕ → List ℕ → Record
+recordOf k ns =
+    cond (eqb k 1) (Open (getD ns 0 0) (getD ns 1 0) (getD ns 2 0) (getD ns 3 0))
+    (cond (eqb k 2) (Post (dayOf ns))
+    (cond (eqb k 3) (Correct (dayOf ns))
+    (cond (eqb k 4) (Close (getD ns 0 0) (getD ns 1 0) (getD ns 2 0) (getD ns 3 0))
+    (cond (eqb k 5) (Pay (getD ns 0 0)) (Settle (getD ns 0 0) (getD ns 1 0))))))
+
+-- cut short where the body is longer than what is left
+abbrev pub readBody : ℕ → List ℕ → Result Record ReadFault
+readBody k rest = cond (leb (total (widths k)) (length rest)) (Ok (recordOf k (numbers (widths k) rest 0))) (Err CutShort)
+
+-- the day alone, as post and correct carry it
+abbrev pub readDay : List ℕ → Result Day ReadFault
+readDay rest = cond (leb (total dayWidths) (length rest)) (Ok (dayOf (numbers dayWidths rest 0))) (Err CutShort)
+
+-- an unknown kind is refused as such, however short the rest
+abbrev pub readRecord : ℕ → List ℕ → Result Record ReadFault
+readRecord k rest = cond (isKind k) (readBody k rest) (Err UnknownKind)
+
+abbrev pub whole : Result Record ReadFault → Result (Option Record) ReadFault
+whole (Ok r) = Ok (Some r)
+whole (Err f) = Err f
+
+abbrev pub placed : ℕ → Result (Option Record) ReadFault → Result (Option Placed) ReadFault
+placed i (Ok None) = Ok None
+placed i (Ok (Some r)) = Ok (Some (record { place = i; «record» = r }))
+placed i (Err f) = Err f
+
+-- the place behind a record that was read at place i; place i itself where none was
+abbrev pub behind : ℕ → Result (Option Record) ReadFault → ℕ
+behind i (Ok None) = i
+behind i (Ok (Some r)) = i + recordLength r
+behind i (Err f) = i
+
+-- nothing at the end
+abbrev pub readFront : List ℕ → Result (Option Record) ReadFault
+readFront [] = Ok None
+readFront (k ∷ rest) = whole (readRecord k rest)
+
+-- a reader at place i of the bytes answers what is read there, with the place
+abbrev pub answer : List ℕ → ℕ → Result (Option Placed) ReadFault
+answer bs i = placed i (readFront (drop i bs))
+
+-- and then stands behind it
+abbrev pub after : List ℕ → ℕ → ℕ
+after bs i = behind i (readFront (drop i bs))

@@ -1,0 +1,31 @@
+-- What writing a record answers, and what it leaves in the caller's buffer.
+use mathlib.Core.Bool.{Bool, cond}
+use mathlib.Core.List.{List, _++_}
+use Prim.Native.Nat.{ℕ}
+use lib.Dec.{leb}
+use lib.ListN.{length, drop}
+use Rattle.std.specs.declared.result.Result.{Result}
+use Rattle.std.specs.declared.result.Result.the-variants.{Ok, Err}
+use Rattle.journal.specs.declared.faults.WriteFault.{WriteFault}
+use Rattle.journal.specs.declared.faults.WriteFault.the-variants.{BufferTooShort}
+use Rattle.journal.specs.declared.kinds.Record.{Record}
+use Rattle.journal.specs.Format.{recordBytes}
+
+-- an exactly fitting buffer has room
+abbrev pub hasRoom : List ℕ → List ℕ → Bool
+hasRoom bytes buffer = leb (length bytes) (length buffer)
+
+-- how many bytes were put, or a refusal where the buffer is too short
+abbrev pub puts : List ℕ → List ℕ → Result ℕ WriteFault
+puts bytes buffer = cond (hasRoom bytes buffer) (Ok (length bytes)) (Err BufferTooShort)
+
+-- the bytes in front of what stood behind them; the whole buffer as it was after a refusal
+abbrev pub filled : List ℕ → List ℕ → List ℕ
+filled bytes buffer = cond (hasRoom bytes buffer) (bytes ++ drop (length bytes) buffer) buffer
+
+-- the same of a record's bytes
+abbrev pub writes : Record → List ℕ → Result ℕ WriteFault
+writes r buffer = puts (recordBytes r) buffer
+
+abbrev pub written : Record → List ℕ → List ℕ
+written r buffer = filled (recordBytes r) buffer

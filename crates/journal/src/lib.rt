@@ -1,0 +1,14 @@
+// The journal of a gas account: its records, and the reading and writing of their bytes.
+mod bodies;
+mod faults;
+mod kinds;
+mod reader;
+mod writer;
+
+pub use faults::ReadFault;
+pub use faults::WriteFault;
+pub use kinds::Day;
+pub use kinds::Placed;
+pub use kinds::Record;
+pub use reader::Reader;
+pub use writer::write;
