@@ -15,6 +15,7 @@ use Rattle.std.specs.declared.result.Result.the-variants.{Ok, Err}
 use Rattle.journal.specs.declared.faults.ReadFault.{ReadFault}
 use Rattle.journal.specs.declared.faults.WriteFault.{WriteFault}
 use Rattle.journal.specs.declared.faults.WriteFault.the-variants.{BufferTooShort}
+use Rattle.journal.specs.declared.kinds.Placed.{Placed}
 use Rattle.journal.specs.declared.kinds.Record.{Record}
 use Rattle.journal.specs.Format.{kind, widths, fields, recordBytes, recordLength}
 use Rattle.journal.specs.Numbers.{Fit}
@@ -54,6 +55,15 @@ module _ (bs : List ℕ) (i : ℕ) (o : Result (Option Record) ReadFault) (told 
       at-place (Ok None) b = tt
       at-place (Ok (Some r)) b = b
       at-place (Err f) b = tt
+
+-- where a record is read, the reader moves on
+pub goes-on : (bs : List ℕ) (i : ℕ) (p : Placed) → answer bs i ≡ Ok (Some p) → i < after bs i
+goes-on bs i p e = by-way (readFront (drop i bs)) e
+  where
+    by-way : (o : Result (Option Record) ReadFault) → placed i o ≡ Ok (Some p) → i < behind i o
+    by-way (Ok None) e = absurd (let z : _≡_ {A = ℕ} 0 1 = cc in omega arith)
+    by-way (Ok (Some r)) e = omega arith
+    by-way (Err f) e = absurd (let z : _≡_ {A = ℕ} 0 1 = cc in omega arith)
 
 -- a record's bytes are read back at their place among any others
 reads-back : (r : Record) → Fit (widths (kind r)) (fields r) → ReadsBack r (recordBytes r)

@@ -1,5 +1,6 @@
 -- What is read at a place of any list of bytes.
 -- Words: `readBody`, the record of a kind from the bytes behind its kind byte; `readFront`, what a list of bytes begins with; `answer` and `after`, what a reader at a place answers and where it then stands.
+use mathlib.Core.Path.{_≡_}
 use mathlib.Core.Bool.{Bool, cond, _&&_}
 use mathlib.Core.List.{List, [], _∷_}
 use Prim.Native.Nat.{ℕ, _+_}
@@ -85,3 +86,13 @@ answer bs i = placed i (readFront (drop i bs))
 -- and then stands behind it
 abbrev pub after : List ℕ → ℕ → ℕ
 after bs i = behind i (readFront (drop i bs))
+
+-- how reading stops: at the journal's end, or with a refusal
+abbrev pub stop : Option ReadFault → Result (Option Placed) ReadFault
+stop None = Ok None
+stop (Some f) = Err f
+
+-- a reader at place i gives the records ps, one after another, and then stops as told
+abbrev pub Gives : List ℕ → ℕ → List Placed → Option ReadFault → Type 0
+Gives bs i [] end = answer bs i ≡ stop end
+Gives bs i (p ∷ ps) end = (answer bs i ≡ Ok (Some p)) × Gives bs (after bs i) ps end
