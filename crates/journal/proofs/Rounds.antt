@@ -50,19 +50,39 @@ read-by true false m r e = absurd (let z : _≡_ {A = ℕ} 0 1 = cc in omega ari
 read-by false true m r e = absurd (let z : _≡_ {A = ℕ} 0 1 = cc in omega arith)
 read-by false false m r e = absurd (let z : _≡_ {A = ℕ} 0 1 = cc in omega arith)
 
+-- what is known where a record is read behind the kind byte k
+record Read (k : ℕ) (rest : List ℕ) (r : Record) : Type 0 where
+  known : isKind k ≡ true
+  long : total (widths k) ≤ length rest
+  made : r ≡ recordOf k (numbers (widths k) rest 0)
+  size : recordLength r ≡ suc (total (widths k))
+
+read : (k : ℕ) (rest : List ℕ) (r : Record) → readFront (k ∷ rest) ≡ Ok (Some r) → Read k rest r
+read k rest r e =
+    let p = read-by (isKind k) (leb (total (widths k)) (length rest)) _ r e in
+    record {
+      known = p .0;
+      long = leb-true (total (widths k)) (length rest) (p .1);
+      made = p .2;
+      size = ap (λ (s : Record). 1 + total (widths (kind s))) (p .2) ∙ ap (λ (j : ℕ). 1 + total (widths j)) (made-kind k (p .0) (numbers (widths k) rest 0)) ∙ one-add (total (widths k));
+    }
+
+-- a record that is read lies within the bytes
+pub read-within : (bs : List ℕ) (r : Record) → readFront bs ≡ Ok (Some r) → recordLength r ≤ length bs
+read-within [] r e = absurd (let z : _≡_ {A = ℕ} 0 1 = cc in omega arith)
+read-within (k ∷ rest) r e = let p = read k rest r e in omega (arith, p .size, p .long)
+
 -- the bytes begin with those of the record that is read from them
 pub begins-with : (bs : List ℕ) → Bytes bs → (o : Result (Option Record) ReadFault) → readFront bs ≡ o → BeginsWith bs o
 begins-with bs b (Ok None) e = tt
 begins-with bs b (Err f) e = tt
 begins-with [] b (Ok (Some r)) e = absurd (let z : _≡_ {A = ℕ} 0 1 = cc in omega arith)
 begins-with (k ∷ rest) b (Ok (Some r)) e =
-    let p = read-by (isKind k) (leb (total (widths k)) (length rest)) _ r e in
-    let long = leb-true (total (widths k)) (length rest) (p .1) in
-    let same : kind r ≡ k = ap kind (p .2) ∙ made-kind k (p .0) (numbers (widths k) rest 0) in
-    let size : recordLength r ≡ suc (total (widths k)) = ap (λ (j : ℕ). 1 + total (widths j)) same ∙ one-add (total (widths k)) in
-    ap₂ (λ (j : ℕ) (ns : List ℕ). j ∷ bytes (widths j) ns) same (ap fields (p .2) ∙ made-fields k (p .0) rest) ∙
-    ap (λ (l : List ℕ). k ∷ l) (bytes-numbers (widths k) 0 rest (λ i. b (suc i)) (omega (arith, long))) ∙
-    ap (λ (n : ℕ). take n (k ∷ rest)) (sym size)
+    let p = read k rest r e in
+    let same = ap kind (p .made) ∙ made-kind k (p .known) (numbers (widths k) rest 0) in
+    ap₂ (λ (j : ℕ) (ns : List ℕ). j ∷ bytes (widths j) ns) same (ap fields (p .made) ∙ made-fields k (p .known) rest) ∙
+    ap (λ (l : List ℕ). k ∷ l) (bytes-numbers (widths k) 0 rest (λ i. b (suc i)) (omega (arith, p .long))) ∙
+    ap (λ (n : ℕ). take n (k ∷ rest)) (sym (p .size))
 
 body-back : (k : ℕ) (ns rest : List ℕ) → isKind k ≡ true → Fit (widths k) ns → readRecord k (bytes (widths k) ns ++ rest) ≡ Ok (recordOf k ns)
 body-back k ns rest h f =

@@ -4,7 +4,7 @@ use mathlib.Core.Bool.{Bool, true, false, cond}
 use mathlib.Core.List.{List, [], _∷_, _++_}
 use Prim.Native.Nat.{ℕ, _+_, _-_, _≤_, _<_}
 use native.Mathlib.Omega.{arith}
-use lib.ListN.{length, getD, take, drop}
+use lib.ListN.{length, getD, take, drop, length-drop}
 use lib.Seq.{take-append-seam, drop-append-seam}
 use Rattle.std.proofs.shelf.Lists.{take-rest}
 use Rattle.std.specs.Vec.{made}
@@ -22,7 +22,7 @@ use Rattle.journal.specs.Numbers.{Fit}
 use Rattle.journal.specs.Reading.{readRecord, readFront, whole, placed, behind, answer, after}
 use Rattle.journal.specs.Rounds.{BeginsWith, Rewrites, ReadsBack}
 use Rattle.journal.specs.Writing.{hasRoom, puts, filled, writes, written}
-use Rattle.journal.proofs.Rounds.{begins-with, read-back, length-recordBytes}
+use Rattle.journal.proofs.Rounds.{begins-with, read-within, read-back, length-recordBytes}
 use Rattle.journal.proofs.Widths.{Bytes}
 
 -- from the kind byte and the bytes behind it to the whole
@@ -35,6 +35,7 @@ front-begins bs o e b = subst (BeginsWith bs) (sym e) (begins-with bs b (readFro
 
 -- what was read of the bytes that are left at place i
 pub record Told (bs : List ℕ) (i : ℕ) (o : Result (Option Record) ReadFault) : Type 0 where
+  pub inside : i ≤ length bs
   pub reads : o ≡ readFront (take (length bs - i) (drop i bs))
   pub begins : BeginsWith (take (length bs - i) (drop i bs)) o
 
@@ -45,9 +46,6 @@ module _ (bs : List ℕ) (i : ℕ) (o : Result (Option Record) ReadFault) (told 
   pub answered : placed i o ≡ answer bs i
   answered = ap (placed i) here
 
-  pub moved : behind i o ≡ after bs i
-  moved = ap (behind i) here
-
   pub rewrites : Rewrites bs (placed i o)
   rewrites = at-place o (subst (λ (l : List ℕ). BeginsWith l o) (take-rest bs i) (told .begins))
     where
@@ -56,22 +54,24 @@ module _ (bs : List ℕ) (i : ℕ) (o : Result (Option Record) ReadFault) (told 
       at-place (Ok (Some r)) b = b
       at-place (Err f) b = tt
 
+  pub within : behind i (placed i o) ≤ length bs
+  within = at-place o here
+    where
+      at-place : (p : Result (Option Record) ReadFault) → p ≡ readFront (drop i bs) → behind i (placed i p) ≤ length bs
+      at-place (Ok None) e = told .inside
+      at-place (Ok (Some r)) e = omega (arith, read-within (drop i bs) r (sym e), length-drop i bs, told .inside)
+      at-place (Err f) e = told .inside
+
 -- where a record is read, the reader moves on
 pub goes-on : (bs : List ℕ) (i : ℕ) (p : Placed) → answer bs i ≡ Ok (Some p) → i < after bs i
-goes-on bs i p e = by-way (readFront (drop i bs)) e
-  where
-    by-way : (o : Result (Option Record) ReadFault) → placed i o ≡ Ok (Some p) → i < behind i o
-    by-way (Ok None) e = absurd (let z : _≡_ {A = ℕ} 0 1 = cc in omega arith)
-    by-way (Ok (Some r)) e = omega arith
-    by-way (Err f) e = absurd (let z : _≡_ {A = ℕ} 0 1 = cc in omega arith)
+goes-on bs i p e = let on = ap (behind i) e in omega (arith, on)
 
 -- a record's bytes are read back at their place among any others
 reads-back : (r : Record) → Fit (widths (kind r)) (fields r) → ReadsBack r (recordBytes r)
 reads-back r f before rest =
     let bs = recordBytes r ++ rest in
-    let here : readFront (drop (length before) (before ++ bs)) ≡ Ok (Some r) = ap readFront (drop-append-seam before bs) ∙ read-back r rest f in
-    let size : length (recordBytes r) ≡ recordLength r = length-recordBytes r f in
-    (ap (placed (length before)) here, ap (behind (length before)) here ∙ ap (λ (n : ℕ). length before + n) (sym size))
+    let here : answer (before ++ bs) (length before) ≡ Ok (Some (record { place = length before; «record» = r })) = ap (λ (l : List ℕ). placed (length before) (readFront l)) (drop-append-seam before bs) ∙ ap (placed (length before)) (read-back r rest f) in
+    (here, ap (behind (length before)) here ∙ ap (λ (n : ℕ). length before + n) (sym (length-recordBytes r f)))
 
 -- what `write` ensures, from what `put` does with the record's bytes
 pub record Wrote (r : Record) (old : List ℕ) (a : Result ℕ WriteFault) (new : List ℕ) : Type 0 where

@@ -68,12 +68,6 @@ placed i (Ok None) = Ok None
 placed i (Ok (Some r)) = Ok (Some (record { place = i; «record» = r }))
 placed i (Err f) = Err f
 
--- the place behind a record that was read at place i; place i itself where none was
-abbrev pub behind : ℕ → Result (Option Record) ReadFault → ℕ
-behind i (Ok None) = i
-behind i (Ok (Some r)) = i + recordLength r
-behind i (Err f) = i
-
 -- nothing at the end
 abbrev pub readFront : List ℕ → Result (Option Record) ReadFault
 readFront [] = Ok None
@@ -83,9 +77,15 @@ readFront (k ∷ rest) = whole (readRecord k rest)
 abbrev pub answer : List ℕ → ℕ → Result (Option Placed) ReadFault
 answer bs i = placed i (readFront (drop i bs))
 
--- and then stands behind it
+-- the place behind the record in an answer; the reader's own where there is none, also after a refusal
+abbrev pub behind : ℕ → Result (Option Placed) ReadFault → ℕ
+behind i (Ok None) = i
+behind i (Ok (Some p)) = i + recordLength (p .«record»)
+behind i (Err f) = i
+
+-- where the reader then stands
 abbrev pub after : List ℕ → ℕ → ℕ
-after bs i = behind i (readFront (drop i bs))
+after bs i = behind i (answer bs i)
 
 -- how reading stops: at the journal's end, or with a refusal
 abbrev pub stop : Option ReadFault → Result (Option Placed) ReadFault

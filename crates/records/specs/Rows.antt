@@ -63,3 +63,8 @@ listing k (p ∷ ps) end = row k p ++ (codes "\n" ++ listing (k + 1) ps end)
 -- the text lists just the records that a reader gives from the journal's first byte on, and how it stops
 abbrev pub Lists : List ℕ → List ℕ → Type 0
 Lists bs text = (ps : List Placed) × (end : Option ReadFault) × Gives bs 0 ps end × (text ≡ listing 1 ps end)
+
+-- what the program writes of its input: nothing but `too long` where there was more than a journal may hold
+abbrev pub Writes : Option (List ℕ) → List ℕ → Type 0
+Writes None text = text ≡ codes "too long\n"
+Writes (Some bs) text = Lists bs text

@@ -1,7 +1,9 @@
 // The listing of a whole journal.
 ghost use Rattle.std.specs.Of.String.{string-bytes};
+ghost use Rattle.std.specs.Of.Vec.{vec-items};
+ghost use Rattle.std.specs.Options.{mapped};
 ghost use Rattle.std.specs.Vec.{made};
-ghost use Rattle.records.specs.Rows.{Lists};
+ghost use Rattle.records.specs.Rows.{Lists, Writes};
 use crate::rows::Refusal;
 use crate::rows::RefusalDisplay;
 use crate::rows::Row;
@@ -11,7 +13,7 @@ use std::alloc::Global;
 use std::fmt;
 
 // A row for each record, and a last one where reading is refused.
-pub fn list(heap: Global, journal: &[u8]) -> Result<String, fmt::Error>
+fn list(heap: Global, journal: &[u8]) -> Result<String, fmt::Error>
     ensures { λ r. ⌜ made r (λ text. Lists (now (journal .entry)) (string-bytes text)) ⌝ }
 {
     let mut text = String::new(heap);
@@ -32,4 +34,16 @@ pub fn list(heap: Global, journal: &[u8]) -> Result<String, fmt::Error>
             }
         }
     }
+}
+
+// All that the program writes of a journal, or of an input that was too long to be one.
+pub fn output(heap: Global, journal: Option<Vec<u8>>) -> Result<String, fmt::Error>
+    ensures { λ r. ⌜ made r (λ text. Writes (mapped vec-items journal) (string-bytes text)) ⌝ }
+{
+    let Some(bytes) = journal else {
+        let mut text = String::new(heap);
+        writeln!(text, "too long")?;
+        return Ok(text);
+    };
+    list(heap, bytes.as_slice())
 }

@@ -3,14 +3,12 @@ mod listing;
 mod rows;
 
 use journal::load;
-use listing::list;
+use listing::output;
 use std::error::AnyError;
 
 fn main(rt: LibcRuntime) -> Result<(), AnyError> {
     let heap = rt.alloc();
-    match load(heap, rt.stdin())? {
-        None => println!(rt, "too long")?,
-        Some(bytes) => rt.print(list(heap, bytes.as_slice())?)?,
-    }
+    let journal = load(heap, rt.stdin())?;
+    rt.print(output(heap, journal)?)?;
     Ok(())
 }

@@ -1,11 +1,26 @@
 // Reading a journal record by record.
 ghost use mathlib.Core.Path.{_≡_};
-ghost use Rattle.journal.specs.Reading.{answer, after};
+ghost use Prim.Native.Nat.{_≤_};
+ghost use lib.ListN.{length};
+ghost use Rattle.journal.specs.Reading.{answer, behind, after};
 ghost use Rattle.journal.specs.Rounds.{Rewrites};
 use super::super::bodies::front;
 use super::super::faults::ReadFault;
 use super::super::kinds::Placed;
 use super::Reader;
+
+// What stands at a place of the bytes, with the place.
+fn read_at(bytes: &[u8], place: usize) -> Result<Option<Placed>, ReadFault>
+    requires { ⌜ place ≤ length (now bytes) ⌝ }
+    ensures reads { λ r. ⌜ r ≡ answer (now (bytes .entry)) place ⌝ }
+    ensures rewrites { λ r. ⌜ Rewrites (now (bytes .entry)) r ⌝ }
+    ensures within { λ r. ⌜ behind place r ≤ length (now (bytes .entry)) ⌝ }
+{
+    match front(&bytes[place..])? {
+        Some(record) => Ok(Some(Placed { place, record })),
+        None => Ok(None),
+    }
+}
 
 impl<'a> Reader<'a> {
     // A reader that stands at the journal's first byte.
@@ -30,11 +45,10 @@ impl<'a> Reader<'a> {
         ensures rewrites { λ r. ⌜ Rewrites (now (now (self .entry) .bytes)) r ⌝ }
         ensures same { λ r. ⌜ now (self .exit) .bytes ≡ now (self .entry) .bytes ⌝ }
     {
-        let place = self.at;
-        let Some(record) = front(&self.bytes[place..])? else {
-            return Ok(None);
-        };
-        self.at = place + record.len();
-        Ok(Some(Placed { place, record }))
+        let read = read_at(self.bytes, self.at);
+        if let Ok(Some(placed)) = read {
+            self.at += placed.record.len();
+        }
+        read
     }
 }
