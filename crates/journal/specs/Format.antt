@@ -1,5 +1,9 @@
 -- The format of a record: a byte of kind, then a body whose length the kind fixes.
--- Words: `kind`, the first byte; `widths`, the layout of a kind's body; `fields`, a record's numbers in the order of its bytes; `recordBytes`, its bytes.
+-- Words:
+-- `kind`, a record's first byte
+-- `widths`, the layout of a kind's body: how many bytes each of its numbers has, in order
+-- `fields`, a record's numbers in the order of its bytes
+-- `recordBytes`, its bytes
 use mathlib.Core.Bool.{cond}
 use mathlib.Core.List.{List, [], _∷_}
 use Prim.Native.Nat.{ℕ, _+_}
@@ -9,6 +13,7 @@ use Rattle.journal.specs.declared.kinds.Day.{Day}
 use Rattle.journal.specs.declared.kinds.Record.{Record}
 use Rattle.journal.specs.declared.kinds.Record.the-variants.{Open, Post, Correct, Close, Pay, Settle}
 
+-- the kind byte
 abbrev pub kind : Record → ℕ
 kind (Open leap increase first last) = 1
 kind (Post day) = 2
@@ -43,13 +48,16 @@ widths k =
     cond (eqb k 1) openWidths
     (cond (eqb k 2) dayWidths (cond (eqb k 3) dayWidths (cond (eqb k 4) closeWidths (cond (eqb k 5) payWidths (cond (eqb k 6) settleWidths [])))))
 
+-- a day's numbers in the order of its bytes
 abbrev pub dayFields : Day → List ℕ
 dayFields d =
     d .month ∷ d .day ∷ d .kind ∷ d .curtailed ∷ d .nomination ∷ d .receipts ∷ d .reading ∷ d .«after_notice» ∷ d .«supply_cost» ∷ d .«variance_rate» ∷ []
 
+-- the body that post and correct share
 abbrev pub dayBytes : Day → List ℕ
 dayBytes d = bytes dayWidths (dayFields d)
 
+-- a record's numbers in the order of its bytes
 abbrev pub fields : Record → List ℕ
 fields (Open leap increase first last) = leap ∷ increase ∷ first ∷ last ∷ []
 fields (Post day) = dayFields day
@@ -58,8 +66,10 @@ fields (Close month index interruptible firm) = month ∷ index ∷ interruptibl
 fields (Pay amount) = amount ∷ []
 fields (Settle final interest) = final ∷ interest ∷ []
 
+-- the kind byte, then the numbers by the kind's layout
 abbrev pub recordBytes : Record → List ℕ
 recordBytes r = kind r ∷ bytes (widths (kind r)) (fields r)
 
+-- how many bytes that is
 abbrev pub recordLength : Record → ℕ
 recordLength r = 1 + total (widths (kind r))

@@ -1,5 +1,7 @@
 -- Numbers in bytes, the lowest byte first.
--- Words: `number`, what some bytes stand for; `low`, the bytes of a number; `numbers`, `bytes`, the same of a row of numbers by their widths.
+-- Words:
+-- `number`, what some bytes stand for, and `numbers`, what a row of them does by its widths
+-- `low`, the bytes of a number, and `bytes`, those of a row of numbers by its widths
 use mathlib.Core.List.{List, [], _∷_, _++_}
 use Prim.Native.Nat.{ℕ, zero, suc, _+_, _*_, _/_, _%_, _<_}
 use lib.ListN.{getD}

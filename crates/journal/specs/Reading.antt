@@ -1,5 +1,9 @@
 -- What is read at a place of any list of bytes.
--- Words: `readBody`, the record of a kind from the bytes behind its kind byte; `readFront`, what a list of bytes begins with; `answer` and `after`, what a reader at a place answers and where it then stands.
+-- Words:
+-- `readBody`, the record of a kind, from the bytes behind its kind byte
+-- `readFront`, what a list of bytes begins with
+-- `answer` and `after`, what a reader at a place answers, and where it then stands
+-- `Gives`, what a reader gives of the whole rest of a journal
 use mathlib.Core.Path.{_≡_}
 use mathlib.Core.Bool.{Bool, cond, _&&_}
 use mathlib.Core.List.{List, [], _∷_}
@@ -59,19 +63,21 @@ readDay rest = cond (leb (total dayWidths) (length rest)) (Ok (dayOf (numbers da
 abbrev pub readRecord : ℕ → List ℕ → Result Record ReadFault
 readRecord k rest = cond (isKind k) (readBody k rest) (Err UnknownKind)
 
+-- what was read is a record, and not the end
 abbrev pub whole : Result Record ReadFault → Result (Option Record) ReadFault
 whole (Ok r) = Ok (Some r)
 whole (Err f) = Err f
 
+-- none where no byte is left, else what its first byte and the rest give
+abbrev pub readFront : List ℕ → Result (Option Record) ReadFault
+readFront [] = Ok None
+readFront (k ∷ rest) = whole (readRecord k rest)
+
+-- a record comes with the place of its first byte
 abbrev pub placed : ℕ → Result (Option Record) ReadFault → Result (Option Placed) ReadFault
 placed i (Ok None) = Ok None
 placed i (Ok (Some r)) = Ok (Some (record { place = i; «record» = r }))
 placed i (Err f) = Err f
-
--- nothing at the end
-abbrev pub readFront : List ℕ → Result (Option Record) ReadFault
-readFront [] = Ok None
-readFront (k ∷ rest) = whole (readRecord k rest)
 
 -- a reader at place i of the bytes answers what is read there, with the place
 abbrev pub answer : List ℕ → ℕ → Result (Option Placed) ReadFault

@@ -6,7 +6,7 @@ ghost use lib.ListN.{length};
 pub mod ops;
 
 // The journal's bytes and the place of the next record among them.
-#[derive(Clone, Copy)]
+#[derive(Drop)]
 pub struct Reader<'a> {
     bytes: &'a [u8],
     at: usize,

@@ -99,6 +99,7 @@ fn settle_bytes(final_increase: u16, interest: u16) -> [u8; 5]
     let [i0, i1] = interest.to_le_bytes();
     [6, f0, f1, i0, i1]
 }
+
 // The record's bytes at the start of the buffer: answers their number, and touches no byte behind them.
 // A buffer that is too short is refused and stays as it was.
 pub fn write(record: &Record, buffer: &mut [u8]) -> Result<usize, WriteFault>

@@ -1,5 +1,7 @@
 -- What a listing of a journal says.
--- Words: `row`, the text of one record; `listing`, that of a whole journal's records and of the refusal at which reading stops.
+-- Words:
+-- `row`, the text of one record, and `refusal`, that of the refusal at which reading stops
+-- `listing`, the text of a whole journal
 use mathlib.Core.Path.{_≡_}
 use mathlib.Core.List.{List, [], _∷_, _++_}
 use Prim.Native.Nat.{ℕ, _+_}
@@ -24,6 +26,7 @@ word (Close month index interruptible firm) = codes "close"
 word (Pay amount) = codes "pay"
 word (Settle final interest) = codes "settle"
 
+-- the names of a day's fields, in the order of its bytes
 abbrev pub dayNames : List (List ℕ)
 dayNames =
     codes "month" ∷ codes "day" ∷ codes "kind" ∷ codes "curtailed" ∷ codes "nomination" ∷ codes "receipts" ∷ codes "reading" ∷ codes "after_notice" ∷ codes "supply_cost" ∷ codes "variance_rate" ∷ []
@@ -43,6 +46,7 @@ named [] vs = []
 named (n ∷ ns) [] = []
 named (n ∷ ns) (v ∷ vs) = codes " " ++ (n ++ (codes " " ++ (decimal v ++ named ns vs)))
 
+-- the kind in a word, then the fields
 abbrev pub described : Record → List ℕ
 described r = word r ++ named (names r) (fields r)
 
