@@ -1,3 +1,3 @@
-pub mod Rounds
+pub mod RoundTrips
 pub mod Steps
 pub mod Widths

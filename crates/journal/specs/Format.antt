@@ -8,19 +8,19 @@ use mathlib.Core.Bool.{cond}
 use mathlib.Core.List.{List, [], _∷_}
 use Prim.Native.Nat.{ℕ, _+_}
 use lib.Dec.{eqb}
-use Rattle.journal.specs.Numbers.{bytes, total}
+use Rattle.journal.specs.Numbers.{rowBytes, rowLength}
 use Rattle.journal.specs.declared.kinds.Day.{Day}
 use Rattle.journal.specs.declared.kinds.Record.{Record}
 use Rattle.journal.specs.declared.kinds.Record.the-variants.{Open, Post, Correct, Close, Pay, Settle}
 
 -- the kind byte
-abbrev pub kind : Record → ℕ
-kind (Open leap increase first last) = 1
-kind (Post day) = 2
-kind (Correct day) = 3
-kind (Close month index interruptible firm) = 4
-kind (Pay amount) = 5
-kind (Settle final interest) = 6
+abbrev pub kindByte : Record → ℕ
+kindByte (Open leap increase first last) = 1
+kindByte (Post day) = 2
+kindByte (Correct day) = 3
+kindByte (Close month index interruptible firm) = 4
+kindByte (Pay amount) = 5
+kindByte (Settle final interest) = 6
 
 -- leap mark; per mille; first and last interim month
 abbrev pub openWidths : List ℕ
@@ -55,21 +55,21 @@ dayFields d =
 
 -- the body that post and correct share
 abbrev pub dayBytes : Day → List ℕ
-dayBytes d = bytes dayWidths (dayFields d)
+dayBytes d = rowBytes dayWidths (dayFields d)
 
 -- a record's numbers in the order of its bytes
-abbrev pub fields : Record → List ℕ
-fields (Open leap increase first last) = leap ∷ increase ∷ first ∷ last ∷ []
-fields (Post day) = dayFields day
-fields (Correct day) = dayFields day
-fields (Close month index interruptible firm) = month ∷ index ∷ interruptible ∷ firm ∷ []
-fields (Pay amount) = amount ∷ []
-fields (Settle final interest) = final ∷ interest ∷ []
+abbrev pub fieldsOf : Record → List ℕ
+fieldsOf (Open leap increase first last) = leap ∷ increase ∷ first ∷ last ∷ []
+fieldsOf (Post day) = dayFields day
+fieldsOf (Correct day) = dayFields day
+fieldsOf (Close month index interruptible firm) = month ∷ index ∷ interruptible ∷ firm ∷ []
+fieldsOf (Pay amount) = amount ∷ []
+fieldsOf (Settle final interest) = final ∷ interest ∷ []
 
 -- the kind byte, then the numbers by the kind's layout
 abbrev pub recordBytes : Record → List ℕ
-recordBytes r = kind r ∷ bytes (widths (kind r)) (fields r)
+recordBytes r = kindByte r ∷ rowBytes (widths (kindByte r)) (fieldsOf r)
 
 -- how many bytes that is
 abbrev pub recordLength : Record → ℕ
-recordLength r = 1 + total (widths (kind r))
+recordLength r = 1 + rowLength (widths (kindByte r))

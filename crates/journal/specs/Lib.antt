@@ -2,5 +2,5 @@ pub mod Faults
 pub mod Format
 pub mod Numbers
 pub mod Reading
-pub mod Rounds
+pub mod RoundTrips
 pub mod Writing

@@ -7,30 +7,30 @@ use Prim.Native.Nat.{ℕ, zero, suc, _+_, _*_, _/_, _%_, _<_}
 use lib.ListN.{getD}
 
 -- the number that the w bytes from place i on stand for
-abbrev pub number : List ℕ → ℕ → ℕ → ℕ
-number bs i zero = 0
-number bs i (suc w) = getD bs i 0 + 256 * number bs (suc i) w
+abbrev pub numberAt : List ℕ → ℕ → ℕ → ℕ
+numberAt bs i zero = 0
+numberAt bs i (suc w) = getD bs i 0 + 256 * numberAt bs (suc i) w
 
 -- the numbers from place i on, by their widths in bytes
-abbrev pub numbers : List ℕ → List ℕ → ℕ → List ℕ
-numbers [] bs i = []
-numbers (w ∷ ws) bs i = number bs i w ∷ numbers ws bs (i + w)
+abbrev pub rowAt : List ℕ → List ℕ → ℕ → List ℕ
+rowAt [] bs i = []
+rowAt (w ∷ ws) bs i = numberAt bs i w ∷ rowAt ws bs (i + w)
 
 -- the lowest w bytes of a number
-abbrev pub low : ℕ → ℕ → List ℕ
-low zero n = []
-low (suc w) n = (n % 256) ∷ low w (n / 256)
+abbrev pub lowBytes : ℕ → ℕ → List ℕ
+lowBytes zero n = []
+lowBytes (suc w) n = (n % 256) ∷ lowBytes w (n / 256)
 
 -- the bytes of a row of numbers, by their widths
-abbrev pub bytes : List ℕ → List ℕ → List ℕ
-bytes [] ns = []
-bytes (w ∷ ws) [] = []
-bytes (w ∷ ws) (n ∷ ns) = low w n ++ bytes ws ns
+abbrev pub rowBytes : List ℕ → List ℕ → List ℕ
+rowBytes [] ns = []
+rowBytes (w ∷ ws) [] = []
+rowBytes (w ∷ ws) (n ∷ ns) = lowBytes w n ++ rowBytes ws ns
 
 -- how many bytes such a row takes
-abbrev pub total : List ℕ → ℕ
-total [] = 0
-total (w ∷ ws) = w + total ws
+abbrev pub rowLength : List ℕ → ℕ
+rowLength [] = 0
+rowLength (w ∷ ws) = w + rowLength ws
 
 -- one more than the largest number of w bytes
 abbrev pub limit : ℕ → ℕ

@@ -21,7 +21,7 @@ use Rattle.journal.specs.declared.kinds.Record.{Record}
 use Rattle.journal.specs.declared.kinds.Record.the-variants.{Open, Post, Correct, Close, Pay, Settle}
 use Rattle.journal.specs.declared.kinds.Placed.{Placed}
 use Rattle.journal.specs.Format.{widths, dayWidths, recordLength}
-use Rattle.journal.specs.Numbers.{numbers, total}
+use Rattle.journal.specs.Numbers.{rowAt, rowLength}
 
 -- a kind byte is 1 to 6
 abbrev pub isKind : ℕ → Bool
@@ -53,35 +53,35 @@ recordOf k ns =
 
 -- cut short where the body is longer than what is left
 abbrev pub readBody : ℕ → List ℕ → Result Record ReadFault
-readBody k rest = cond (leb (total (widths k)) (length rest)) (Ok (recordOf k (numbers (widths k) rest 0))) (Err CutShort)
+readBody k rest = cond (leb (rowLength (widths k)) (length rest)) (Ok (recordOf k (rowAt (widths k) rest 0))) (Err CutShort)
 
 -- the day alone, as post and correct carry it
 abbrev pub readDay : List ℕ → Result Day ReadFault
-readDay rest = cond (leb (total dayWidths) (length rest)) (Ok (dayOf (numbers dayWidths rest 0))) (Err CutShort)
+readDay rest = cond (leb (rowLength dayWidths) (length rest)) (Ok (dayOf (rowAt dayWidths rest 0))) (Err CutShort)
 
 -- an unknown kind is refused as such, however short the rest
 abbrev pub readRecord : ℕ → List ℕ → Result Record ReadFault
 readRecord k rest = cond (isKind k) (readBody k rest) (Err UnknownKind)
 
 -- what was read is a record, and not the end
-abbrev pub whole : Result Record ReadFault → Result (Option Record) ReadFault
-whole (Ok r) = Ok (Some r)
-whole (Err f) = Err f
+abbrev pub asRecord : Result Record ReadFault → Result (Option Record) ReadFault
+asRecord (Ok r) = Ok (Some r)
+asRecord (Err f) = Err f
 
 -- none where no byte is left, else what its first byte and the rest give
 abbrev pub readFront : List ℕ → Result (Option Record) ReadFault
 readFront [] = Ok None
-readFront (k ∷ rest) = whole (readRecord k rest)
+readFront (k ∷ rest) = asRecord (readRecord k rest)
 
 -- a record comes with the place of its first byte
-abbrev pub placed : ℕ → Result (Option Record) ReadFault → Result (Option Placed) ReadFault
-placed i (Ok None) = Ok None
-placed i (Ok (Some r)) = Ok (Some (record { place = i; «record» = r }))
-placed i (Err f) = Err f
+abbrev pub withPlace : ℕ → Result (Option Record) ReadFault → Result (Option Placed) ReadFault
+withPlace i (Ok None) = Ok None
+withPlace i (Ok (Some r)) = Ok (Some (record { place = i; «record» = r }))
+withPlace i (Err f) = Err f
 
 -- a reader at place i of the bytes answers what is read there, with the place
 abbrev pub answer : List ℕ → ℕ → Result (Option Placed) ReadFault
-answer bs i = placed i (readFront (drop i bs))
+answer bs i = withPlace i (readFront (drop i bs))
 
 -- the place behind the record in an answer; the reader's own where there is none, also after a refusal
 abbrev pub behind : ℕ → Result (Option Placed) ReadFault → ℕ

@@ -13,19 +13,19 @@ use Rattle.journal.specs.Format.{recordBytes}
 
 -- an exactly fitting buffer has room
 abbrev pub hasRoom : List ℕ → List ℕ → Bool
-hasRoom bytes buffer = leb (length bytes) (length buffer)
+hasRoom rowBytes buffer = leb (length rowBytes) (length buffer)
 
 -- how many bytes were put, or a refusal where the buffer is too short
-abbrev pub puts : List ℕ → List ℕ → Result ℕ WriteFault
-puts bytes buffer = cond (hasRoom bytes buffer) (Ok (length bytes)) (Err BufferTooShort)
+abbrev pub putAnswer : List ℕ → List ℕ → Result ℕ WriteFault
+putAnswer rowBytes buffer = cond (hasRoom rowBytes buffer) (Ok (length rowBytes)) (Err BufferTooShort)
 
 -- the bytes in front of what stood behind them; the whole buffer as it was after a refusal
-abbrev pub filled : List ℕ → List ℕ → List ℕ
-filled bytes buffer = cond (hasRoom bytes buffer) (bytes ++ drop (length bytes) buffer) buffer
+abbrev pub bufferWith : List ℕ → List ℕ → List ℕ
+bufferWith rowBytes buffer = cond (hasRoom rowBytes buffer) (rowBytes ++ drop (length rowBytes) buffer) buffer
 
 -- the same of a record's bytes
-abbrev pub writes : Record → List ℕ → Result ℕ WriteFault
-writes r buffer = puts (recordBytes r) buffer
+abbrev pub writeAnswer : Record → List ℕ → Result ℕ WriteFault
+writeAnswer r buffer = putAnswer (recordBytes r) buffer
 
-abbrev pub written : Record → List ℕ → List ℕ
-written r buffer = filled (recordBytes r) buffer
+abbrev pub bufferAfter : Record → List ℕ → List ℕ
+bufferAfter r buffer = bufferWith (recordBytes r) buffer

@@ -1,7 +1,7 @@
 // From bytes to the record that they begin with.
 ghost use mathlib.Core.Path.{_≡_};
 ghost use Rattle.journal.specs.Reading.{readBody, readDay, readFront, readRecord};
-ghost use Rattle.journal.specs.Rounds.{BeginsWith};
+ghost use Rattle.journal.specs.RoundTrips.{BeginsWith};
 use super::faults::ReadFault;
 use super::kinds::Day;
 use super::kinds::Record;

@@ -6,16 +6,16 @@ ghost use Rattle.std.specs.Vec.{made};
 ghost use Rattle.journal.specs.Format.{dayBytes, dayFields, dayWidths, recordBytes};
 ghost use Rattle.journal.specs.Numbers.{Fit};
 ghost use Rattle.journal.specs.declared.kinds.Record.the-variants.{Open, Close, Pay, Settle};
-ghost use Rattle.journal.specs.Rounds.{ReadsBack};
-ghost use Rattle.journal.specs.Writing.{puts, filled, writes, written};
+ghost use Rattle.journal.specs.RoundTrips.{ReadsBack};
+ghost use Rattle.journal.specs.Writing.{putAnswer, bufferWith, writeAnswer, bufferAfter};
 use super::faults::WriteFault;
 use super::kinds::Day;
 use super::kinds::Record;
 
 // The bytes at the start of the buffer, or a refusal where they have no room.
 fn put(buffer: &mut [u8], bytes: &[u8]) -> Result<usize, WriteFault>
-    ensures answers { λ r. ⌜ r ≡ puts (now (bytes .entry)) (now (buffer .entry)) ⌝ }
-    ensures leaves { λ _. ⌜ now (buffer .exit) ≡ filled (now (bytes .entry)) (now (buffer .entry)) ⌝ }
+    ensures answers { λ r. ⌜ r ≡ putAnswer (now (bytes .entry)) (now (buffer .entry)) ⌝ }
+    ensures leaves { λ _. ⌜ now (buffer .exit) ≡ bufferWith (now (bytes .entry)) (now (buffer .entry)) ⌝ }
 {
     let count = bytes.len();
     if buffer.len() < count {
@@ -103,8 +103,8 @@ fn settle_bytes(final_increase: u16, interest: u16) -> [u8; 5]
 // The record's bytes at the start of the buffer: answers their number, and touches no byte behind them.
 // A buffer that is too short is refused and stays as it was.
 pub fn write(record: &Record, buffer: &mut [u8]) -> Result<usize, WriteFault>
-    ensures answers { λ r. ⌜ r ≡ writes (now («record» .entry)) (now (buffer .entry)) ⌝ }
-    ensures leaves { λ _. ⌜ now (buffer .exit) ≡ written (now («record» .entry)) (now (buffer .entry)) ⌝ }
+    ensures answers { λ r. ⌜ r ≡ writeAnswer (now («record» .entry)) (now (buffer .entry)) ⌝ }
+    ensures leaves { λ _. ⌜ now (buffer .exit) ≡ bufferAfter (now («record» .entry)) (now (buffer .entry)) ⌝ }
     ensures reads_back { λ r. ⌜ made r (λ n. ReadsBack (now («record» .entry)) (take n (now (buffer .exit)))) ⌝ }
 {
     match *record {

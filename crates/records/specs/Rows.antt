@@ -14,7 +14,7 @@ use Rattle.journal.specs.declared.kinds.Placed.{Placed}
 use Rattle.journal.specs.declared.kinds.Record.{Record}
 use Rattle.journal.specs.declared.kinds.Record.the-variants.{Open, Post, Correct, Close, Pay, Settle}
 use Rattle.journal.specs.Faults.{readNumber}
-use Rattle.journal.specs.Format.{fields}
+use Rattle.journal.specs.Format.{fieldsOf}
 use Rattle.journal.specs.Reading.{Gives}
 
 -- the kind in a word
@@ -41,32 +41,32 @@ names (Pay amount) = codes "amount" ∷ []
 names (Settle final interest) = codes "final_increase" ∷ codes "interest" ∷ []
 
 -- each name and its number, with a space before either
-abbrev pub named : List (List ℕ) → List ℕ → List ℕ
-named [] vs = []
-named (n ∷ ns) [] = []
-named (n ∷ ns) (v ∷ vs) = codes " " ++ (n ++ (codes " " ++ (decimal v ++ named ns vs)))
+abbrev pub fieldsText : List (List ℕ) → List ℕ → List ℕ
+fieldsText [] vs = []
+fieldsText (n ∷ ns) [] = []
+fieldsText (n ∷ ns) (v ∷ vs) = codes " " ++ (n ++ (codes " " ++ (decimal v ++ fieldsText ns vs)))
 
 -- the kind in a word, then the fields
-abbrev pub described : Record → List ℕ
-described r = word r ++ named (names r) (fields r)
+abbrev pub recordText : Record → List ℕ
+recordText r = word r ++ fieldsText (names r) (fieldsOf r)
 
 -- the record's number, its place, its kind and its fields
-abbrev pub row : ℕ → Placed → List ℕ
-row k p = decimal k ++ (codes " " ++ (decimal (p .place) ++ (codes " " ++ described (p .«record»))))
+abbrev pub rowText : ℕ → Placed → List ℕ
+rowText k p = decimal k ++ (codes " " ++ (decimal (p .place) ++ (codes " " ++ recordText (p .«record»))))
 
 -- a refusal: the number of the record that could not be read, and that of the refusal
-abbrev pub refusal : ℕ → ReadFault → List ℕ
-refusal k f = codes "refused " ++ (decimal k ++ (codes " " ++ decimal (readNumber f)))
+abbrev pub refusalText : ℕ → ReadFault → List ℕ
+refusalText k f = codes "refused " ++ (decimal k ++ (codes " " ++ decimal (readNumber f)))
 
 -- a row to a line, numbered from k, and last the refusal where there is one
-abbrev pub listing : ℕ → List Placed → Option ReadFault → List ℕ
-listing k [] None = []
-listing k [] (Some f) = refusal k f ++ codes "\n"
-listing k (p ∷ ps) end = row k p ++ (codes "\n" ++ listing (k + 1) ps end)
+abbrev pub listingText : ℕ → List Placed → Option ReadFault → List ℕ
+listingText k [] None = []
+listingText k [] (Some f) = refusalText k f ++ codes "\n"
+listingText k (p ∷ ps) end = rowText k p ++ (codes "\n" ++ listingText (k + 1) ps end)
 
 -- the text lists just the records that a reader gives from the journal's first byte on, and how it stops
 abbrev pub Lists : List ℕ → List ℕ → Type 0
-Lists bs text = (ps : List Placed) × (end : Option ReadFault) × Gives bs 0 ps end × (text ≡ listing 1 ps end)
+Lists bs text = (ps : List Placed) × (end : Option ReadFault) × Gives bs 0 ps end × (text ≡ listingText 1 ps end)
 
 -- what the program writes of its input: nothing but `too long` where there was more than a journal may hold
 abbrev pub Writes : Option (List ℕ) → List ℕ → Type 0

@@ -3,7 +3,7 @@ ghost use mathlib.Core.List.{_++_};
 ghost use lib.Chars.{codes};
 ghost use Rattle.std.specs.declared.option.Option.the-variants.{Some};
 ghost use Rattle.journal.specs.Format.{dayFields};
-ghost use Rattle.records.specs.Rows.{dayNames, named, described, row, refusal};
+ghost use Rattle.records.specs.Rows.{dayNames, fieldsText, recordText, rowText, refusalText};
 use journal::Day;
 use journal::Placed;
 use journal::ReadFault;
@@ -15,7 +15,7 @@ use std::fmt;
 struct Named(Day);
 
 impl fmt::Display for Named as NamedDisplay {
-    ghost shown = { λ d. Some (named dayNames (dayFields (d .0))) };
+    ghost shown = { λ d. Some (fieldsText dayNames (dayFields (d .0))) };
 
     fn fmt<W: fmt::Write>(&self, f: &mut fmt::Formatter<W>) -> fmt::Result {
         let Day {
@@ -50,7 +50,7 @@ impl fmt::Display for Named as NamedDisplay {
 struct Described(Record);
 
 impl fmt::Display for Described as DescribedDisplay {
-    ghost shown = { λ r. Some (described (r .0)) };
+    ghost shown = { λ r. Some (recordText (r .0)) };
 
     fn fmt<W: fmt::Write>(&self, f: &mut fmt::Formatter<W>) -> fmt::Result {
         match self.0 {
@@ -100,7 +100,7 @@ pub struct Row {
 }
 
 pub impl fmt::Display for Row as RowDisplay {
-    ghost shown = { λ r. Some (row (r .number) (r .placed)) };
+    ghost shown = { λ r. Some (rowText (r .number) (r .placed)) };
 
     fn fmt<W: fmt::Write>(&self, f: &mut fmt::Formatter<W>) -> fmt::Result {
         let number = self.number;
@@ -118,7 +118,7 @@ pub struct Refusal {
 }
 
 pub impl fmt::Display for Refusal as RefusalDisplay {
-    ghost shown = { λ r. Some (refusal (r .number) (r .fault)) };
+    ghost shown = { λ r. Some (refusalText (r .number) (r .fault)) };
 
     fn fmt<W: fmt::Write>(&self, f: &mut fmt::Formatter<W>) -> fmt::Result {
         let number = self.number;

@@ -3,7 +3,7 @@ ghost use mathlib.Core.Path.{_≡_};
 ghost use Prim.Native.Nat.{_≤_};
 ghost use lib.ListN.{length};
 ghost use Rattle.journal.specs.Reading.{answer, behind, after};
-ghost use Rattle.journal.specs.Rounds.{Rewrites};
+ghost use Rattle.journal.specs.RoundTrips.{Rewrites};
 use super::super::bodies::front;
 use super::super::faults::ReadFault;
 use super::super::kinds::Placed;

@@ -3,7 +3,7 @@ use denote.Ref.{now}
 use Rattle.std.specs.declared.option.Option.the-variants.{Some, None}
 use Rattle.std.specs.declared.result.Result.the-variants.{Ok, Err}
 use Rattle.journal.specs.Reading.{answer, after}
-use Rattle.records.proofs.Walk.{ended, refused, one-more}
+use Rattle.records.proofs.Turns.{ended, refused, one-more}
 use Rattle.records.proofs.listing.list.Needs as need
 
 pub loop-placed-again : need.loop-placed-again

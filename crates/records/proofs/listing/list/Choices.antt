@@ -2,7 +2,7 @@ use mathlib.Core.Path.{_≡_}
 use Prim.Native.Nat.{_-_}
 use lib.ListN.{length}
 use Rattle.std.specs.Of.String.{string-bytes}
-use Rattle.records.proofs.Walk.{Sofar}
+use Rattle.records.proofs.Turns.{Sofar}
 use Rattle.records.proofs.listing.list.Given as given
 
 abbrev pub Inv-loop-placed : given.InvT-loop-placed

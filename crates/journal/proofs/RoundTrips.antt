@@ -17,10 +17,10 @@ use Rattle.journal.specs.declared.faults.ReadFault.{ReadFault}
 use Rattle.journal.specs.declared.faults.ReadFault.the-variants.{UnknownKind, CutShort}
 use Rattle.journal.specs.declared.kinds.Record.{Record}
 use Rattle.journal.specs.declared.kinds.Record.the-variants.{Open, Post, Correct, Close, Pay, Settle}
-use Rattle.journal.specs.Format.{kind, widths, fields, recordBytes, recordLength}
-use Rattle.journal.specs.Numbers.{numbers, bytes, total, Fit}
-use Rattle.journal.specs.Reading.{isKind, recordOf, readRecord, readFront, whole}
-use Rattle.journal.specs.Rounds.{BeginsWith}
+use Rattle.journal.specs.Format.{kindByte, widths, fieldsOf, recordBytes, recordLength}
+use Rattle.journal.specs.Numbers.{rowAt, rowBytes, rowLength, Fit}
+use Rattle.journal.specs.Reading.{isKind, recordOf, readRecord, readFront, asRecord}
+use Rattle.journal.specs.RoundTrips.{BeginsWith}
 use Rattle.journal.proofs.Widths.{Bytes, length-bytes, numbers-bytes, bytes-numbers}
 
 -- what holds of the six kinds holds of every kind byte
@@ -36,15 +36,15 @@ each-kind P a b c d e f (suc (suc (suc (suc (suc (suc (suc k))))))) h =
     absurd (omega (arith, leb-true _ 6 (and-parts (leb 1 (suc (suc (suc (suc (suc (suc (suc k)))))))) _ h .1)))
 
 -- the record that is made of a body's numbers has that kind and those numbers
-made-kind : (k : ℕ) → isKind k ≡ true → (ns : List ℕ) → kind (recordOf k ns) ≡ k
+made-kind : (k : ℕ) → isKind k ≡ true → (ns : List ℕ) → kindByte (recordOf k ns) ≡ k
 made-kind k h ns =
-    each-kind (λ j. kind (recordOf j ns) ≡ j) refl refl refl refl refl refl k h
+    each-kind (λ j. kindByte (recordOf j ns) ≡ j) refl refl refl refl refl refl k h
 
-made-fields : (k : ℕ) → isKind k ≡ true → (bs : List ℕ) → fields (recordOf k (numbers (widths k) bs 0)) ≡ numbers (widths k) bs 0
+made-fields : (k : ℕ) → isKind k ≡ true → (bs : List ℕ) → fieldsOf (recordOf k (rowAt (widths k) bs 0)) ≡ rowAt (widths k) bs 0
 made-fields k h bs =
-    each-kind (λ j. fields (recordOf j (numbers (widths j) bs 0)) ≡ numbers (widths j) bs 0) refl refl refl refl refl refl k h
+    each-kind (λ j. fieldsOf (recordOf j (rowAt (widths j) bs 0)) ≡ rowAt (widths j) bs 0) refl refl refl refl refl refl k h
 
-read-by : (known long : Bool) (m r : Record) → whole (cond known (cond long (Ok m) (Err CutShort)) (Err UnknownKind)) ≡ Ok (Some r) → (known ≡ true) × (long ≡ true) × (r ≡ m)
+read-by : (known long : Bool) (m r : Record) → asRecord (cond known (cond long (Ok m) (Err CutShort)) (Err UnknownKind)) ≡ Ok (Some r) → (known ≡ true) × (long ≡ true) × (r ≡ m)
 read-by true true m r e = (refl, refl, cc)
 read-by true false m r e = absurd (let z : _≡_ {A = ℕ} 0 1 = cc in omega arith)
 read-by false true m r e = absurd (let z : _≡_ {A = ℕ} 0 1 = cc in omega arith)
@@ -53,18 +53,18 @@ read-by false false m r e = absurd (let z : _≡_ {A = ℕ} 0 1 = cc in omega ar
 -- what is known where a record is read behind the kind byte k
 record Read (k : ℕ) (rest : List ℕ) (r : Record) : Type 0 where
   known : isKind k ≡ true
-  long : total (widths k) ≤ length rest
-  made : r ≡ recordOf k (numbers (widths k) rest 0)
-  size : recordLength r ≡ suc (total (widths k))
+  long : rowLength (widths k) ≤ length rest
+  made : r ≡ recordOf k (rowAt (widths k) rest 0)
+  size : recordLength r ≡ suc (rowLength (widths k))
 
 read : (k : ℕ) (rest : List ℕ) (r : Record) → readFront (k ∷ rest) ≡ Ok (Some r) → Read k rest r
 read k rest r e =
-    let p = read-by (isKind k) (leb (total (widths k)) (length rest)) _ r e in
+    let p = read-by (isKind k) (leb (rowLength (widths k)) (length rest)) _ r e in
     record {
       known = p .0;
-      long = leb-true (total (widths k)) (length rest) (p .1);
+      long = leb-true (rowLength (widths k)) (length rest) (p .1);
       made = p .2;
-      size = ap (λ (s : Record). 1 + total (widths (kind s))) (p .2) ∙ ap (λ (j : ℕ). 1 + total (widths j)) (made-kind k (p .0) (numbers (widths k) rest 0)) ∙ one-add (total (widths k));
+      size = ap (λ (s : Record). 1 + rowLength (widths (kindByte s))) (p .2) ∙ ap (λ (j : ℕ). 1 + rowLength (widths j)) (made-kind k (p .0) (rowAt (widths k) rest 0)) ∙ one-add (rowLength (widths k));
     }
 
 -- a record that is read lies within the bytes
@@ -79,18 +79,18 @@ begins-with bs b (Err f) e = tt
 begins-with [] b (Ok (Some r)) e = absurd (let z : _≡_ {A = ℕ} 0 1 = cc in omega arith)
 begins-with (k ∷ rest) b (Ok (Some r)) e =
     let p = read k rest r e in
-    let same = ap kind (p .made) ∙ made-kind k (p .known) (numbers (widths k) rest 0) in
-    ap₂ (λ (j : ℕ) (ns : List ℕ). j ∷ bytes (widths j) ns) same (ap fields (p .made) ∙ made-fields k (p .known) rest) ∙
+    let same = ap kindByte (p .made) ∙ made-kind k (p .known) (rowAt (widths k) rest 0) in
+    ap₂ (λ (j : ℕ) (ns : List ℕ). j ∷ rowBytes (widths j) ns) same (ap fieldsOf (p .made) ∙ made-fields k (p .known) rest) ∙
     ap (λ (l : List ℕ). k ∷ l) (bytes-numbers (widths k) 0 rest (λ i. b (suc i)) (omega (arith, p .long))) ∙
     ap (λ (n : ℕ). take n (k ∷ rest)) (sym (p .size))
 
-body-back : (k : ℕ) (ns rest : List ℕ) → isKind k ≡ true → Fit (widths k) ns → readRecord k (bytes (widths k) ns ++ rest) ≡ Ok (recordOf k ns)
+body-back : (k : ℕ) (ns rest : List ℕ) → isKind k ≡ true → Fit (widths k) ns → readRecord k (rowBytes (widths k) ns ++ rest) ≡ Ok (recordOf k ns)
 body-back k ns rest h f =
-    let size = length-append (bytes (widths k) ns) rest in
-    let long : leb (total (widths k)) (length (bytes (widths k) ns ++ rest)) ≡ true = le-leb _ _ (omega (arith, size, length-bytes (widths k) ns f)) in
+    let size = length-append (rowBytes (widths k) ns) rest in
+    let long : leb (rowLength (widths k)) (length (rowBytes (widths k) ns ++ rest)) ≡ true = le-leb _ _ (omega (arith, size, length-bytes (widths k) ns f)) in
     rw (h, long) (ap (λ (l : List ℕ). Ok (recordOf k l)) (numbers-bytes (widths k) ns rest f))
 
-of-kind : (r : Record) → isKind (kind r) ≡ true
+of-kind : (r : Record) → isKind (kindByte r) ≡ true
 of-kind (Open leap increase first last) = refl
 of-kind (Post day) = refl
 of-kind (Correct day) = refl
@@ -98,7 +98,7 @@ of-kind (Close month index interruptible firm) = refl
 of-kind (Pay amount) = refl
 of-kind (Settle final interest) = refl
 
-of-fields : (r : Record) → recordOf (kind r) (fields r) ≡ r
+of-fields : (r : Record) → recordOf (kindByte r) (fieldsOf r) ≡ r
 of-fields (Open leap increase first last) = refl
 of-fields (Post day) = refl
 of-fields (Correct day) = refl
@@ -107,9 +107,9 @@ of-fields (Pay amount) = refl
 of-fields (Settle final interest) = refl
 
 -- what a record's bytes begin, whatever stands behind them, is that record
-pub read-back : (r : Record) (rest : List ℕ) → Fit (widths (kind r)) (fields r) → readFront (recordBytes r ++ rest) ≡ Ok (Some r)
+pub read-back : (r : Record) (rest : List ℕ) → Fit (widths (kindByte r)) (fieldsOf r) → readFront (recordBytes r ++ rest) ≡ Ok (Some r)
 read-back r rest f =
-    ap whole (body-back (kind r) (fields r) rest (of-kind r) f ∙ ap (λ (x : Record). Ok x) (of-fields r))
+    ap asRecord (body-back (kindByte r) (fieldsOf r) rest (of-kind r) f ∙ ap (λ (x : Record). Ok x) (of-fields r))
 
-pub length-recordBytes : (r : Record) → Fit (widths (kind r)) (fields r) → length (recordBytes r) ≡ recordLength r
-length-recordBytes r f = ap suc (length-bytes (widths (kind r)) (fields r) f) ∙ sym (one-add (total (widths (kind r))))
+pub length-recordBytes : (r : Record) → Fit (widths (kindByte r)) (fieldsOf r) → length (recordBytes r) ≡ recordLength r
+length-recordBytes r f = ap suc (length-bytes (widths (kindByte r)) (fieldsOf r) f) ∙ sym (one-add (rowLength (widths (kindByte r))))

@@ -27,7 +27,7 @@ Rewrites bs (Err f) = Unit {0}
 
 -- among any other bytes, a reader at the place of the written ones answers the record and moves by exactly their number
 abbrev pub ReadsBack : Record → List ℕ → Type 0
-ReadsBack r written =
+ReadsBack r bufferAfter =
     (before rest : List ℕ)
-    → (answer (before ++ (written ++ rest)) (length before) ≡ Ok (Some (record { place = length before; «record» = r })))
-    × (after (before ++ (written ++ rest)) (length before) ≡ length before + length written)
+    → (answer (before ++ (bufferAfter ++ rest)) (length before) ≡ Ok (Some (record { place = length before; «record» = r })))
+    × (after (before ++ (bufferAfter ++ rest)) (length before) ≡ length before + length bufferAfter)
