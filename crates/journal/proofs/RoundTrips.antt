@@ -1,12 +1,11 @@
--- Records and their bytes, there and back.
-use mathlib.Core.Path.{_≡_, refl, sym, ap, ap₂, subst, _∙_}
-use mathlib.Core.Bool.{Bool, true, false, cond, _&&_}
+-- Records and their bytes: what was written is read back, and what was read has its bytes.
+use mathlib.Core.Path.{_≡_, refl, sym, ap, ap₂, _∙_}
+use mathlib.Core.Bool.{Bool, true, false, cond}
 use mathlib.Core.List.{List, [], _∷_, _++_}
-use Prim.Native.Nat.{ℕ, zero, suc, _+_, _-_, _≤_, _<_}
-use native.Mathlib.Numerals.{one-add}
+use Prim.Native.Nat.{ℕ, zero, suc, _≤_}
 use native.Mathlib.Omega.{arith}
 use lib.Dec.{leb}
-use lib.ListN.{length, getD, take, drop, length-append}
+use lib.ListN.{length, take, length-append}
 use borrow.Author.Tests.{le-leb, leb-true, clash}
 use Rattle.std.proofs.shelf.Tests.{and-parts}
 use Rattle.std.specs.declared.option.Option.{Option}
@@ -50,6 +49,10 @@ read-by true false m r e = absurd (let z : _≡_ {A = ℕ} 0 1 = cc in omega ari
 read-by false true m r e = absurd (let z : _≡_ {A = ℕ} 0 1 = cc in omega arith)
 read-by false false m r e = absurd (let z : _≡_ {A = ℕ} 0 1 = cc in omega arith)
 
+made-length : (k : ℕ) → isKind k ≡ true → (bs : List ℕ) → recordLength (recordOf k (rowAt (widths k) bs 0)) ≡ suc (rowLength (widths k))
+made-length k h bs =
+    each-kind (λ j. recordLength (recordOf j (rowAt (widths j) bs 0)) ≡ suc (rowLength (widths j))) refl refl refl refl refl refl k h
+
 -- what is known where a record is read behind the kind byte k
 record Read (k : ℕ) (rest : List ℕ) (r : Record) : Type 0 where
   known : isKind k ≡ true
@@ -64,7 +67,7 @@ read k rest r e =
       known = p .0;
       long = leb-true (rowLength (widths k)) (length rest) (p .1);
       made = p .2;
-      size = ap (λ (s : Record). 1 + rowLength (widths (kindByte s))) (p .2) ∙ ap (λ (j : ℕ). 1 + rowLength (widths j)) (made-kind k (p .0) (rowAt (widths k) rest 0)) ∙ one-add (rowLength (widths k));
+      size = ap recordLength (p .2) ∙ made-length k (p .0) rest;
     }
 
 -- a record that is read lies within the bytes
@@ -90,26 +93,16 @@ body-back k ns rest h f =
     let long : leb (rowLength (widths k)) (length (rowBytes (widths k) ns ++ rest)) ≡ true = le-leb _ _ (omega (arith, size, length-bytes (widths k) ns f)) in
     rw (h, long) (ap (λ (l : List ℕ). Ok (recordOf k l)) (numbers-bytes (widths k) ns rest f))
 
-of-kind : (r : Record) → isKind (kindByte r) ≡ true
-of-kind (Open leap increase first last) = refl
-of-kind (Post day) = refl
-of-kind (Correct day) = refl
-of-kind (Close month index interruptible firm) = refl
-of-kind (Pay amount) = refl
-of-kind (Settle final interest) = refl
-
-of-fields : (r : Record) → recordOf (kindByte r) (fieldsOf r) ≡ r
-of-fields (Open leap increase first last) = refl
-of-fields (Post day) = refl
-of-fields (Correct day) = refl
-of-fields (Close month index interruptible firm) = refl
-of-fields (Pay amount) = refl
-of-fields (Settle final interest) = refl
+-- a record's kind byte is a kind, and its kind and its numbers make it again
+of-record : (r : Record) → (isKind (kindByte r) ≡ true) × (recordOf (kindByte r) (fieldsOf r) ≡ r)
+of-record (Open leap increase first last) = (refl, refl)
+of-record (Post day) = (refl, refl)
+of-record (Correct day) = (refl, refl)
+of-record (Close month index interruptible firm) = (refl, refl)
+of-record (Pay amount) = (refl, refl)
+of-record (Settle final interest) = (refl, refl)
 
 -- what a record's bytes begin, whatever stands behind them, is that record
 pub read-back : (r : Record) (rest : List ℕ) → Fit (widths (kindByte r)) (fieldsOf r) → readFront (recordBytes r ++ rest) ≡ Ok (Some r)
 read-back r rest f =
-    ap asRecord (body-back (kindByte r) (fieldsOf r) rest (of-kind r) f ∙ ap (λ (x : Record). Ok x) (of-fields r))
-
-pub length-recordBytes : (r : Record) → Fit (widths (kindByte r)) (fieldsOf r) → length (recordBytes r) ≡ recordLength r
-length-recordBytes r f = ap suc (length-bytes (widths (kindByte r)) (fieldsOf r) f) ∙ sym (one-add (rowLength (widths (kindByte r))))
+    ap asRecord (body-back (kindByte r) (fieldsOf r) rest (of-record r .0) f ∙ ap (λ (x : Record). Ok x) (of-record r .1))

@@ -1,4 +1,4 @@
--- What the reader's code has in hand, as the definitions of reading say it.
+-- From what the code of the reader and of the writer has in hand to what the definitions say.
 use mathlib.Core.Path.{_≡_, refl, sym, ap, subst, subst⁻¹, _∙_}
 use mathlib.Core.Bool.{Bool, true, false, cond}
 use mathlib.Core.List.{List, [], _∷_, _++_}
@@ -17,12 +17,12 @@ use Rattle.journal.specs.declared.faults.WriteFault.{WriteFault}
 use Rattle.journal.specs.declared.faults.WriteFault.the-variants.{BufferTooShort}
 use Rattle.journal.specs.declared.kinds.Placed.{Placed}
 use Rattle.journal.specs.declared.kinds.Record.{Record}
-use Rattle.journal.specs.Format.{kindByte, widths, fieldsOf, recordBytes, recordLength}
+use Rattle.journal.specs.Format.{kindByte, widths, fieldsOf, recordBytes}
 use Rattle.journal.specs.Numbers.{Fit}
 use Rattle.journal.specs.Reading.{readRecord, readFront, asRecord, withPlace, behind, answer, after}
 use Rattle.journal.specs.RoundTrips.{BeginsWith, Rewrites, ReadsBack}
 use Rattle.journal.specs.Writing.{hasRoom, putAnswer, bufferWith, writeAnswer, bufferAfter}
-use Rattle.journal.proofs.RoundTrips.{begins-with, read-within, read-back, length-recordBytes}
+use Rattle.journal.proofs.RoundTrips.{begins-with, read-within, read-back}
 use Rattle.journal.proofs.Widths.{Bytes}
 
 -- from the kind byte and the bytes behind it to the whole
@@ -34,12 +34,12 @@ pub front-begins : (bs : List ℕ) (o : Result (Option Record) ReadFault) → o 
 front-begins bs o e b = subst (BeginsWith bs) (sym e) (begins-with bs b (readFront bs) refl)
 
 -- what was read of the bytes that are left at place i
-pub record Told (bs : List ℕ) (i : ℕ) (o : Result (Option Record) ReadFault) : Type 0 where
+pub record ReadAt (bs : List ℕ) (i : ℕ) (o : Result (Option Record) ReadFault) : Type 0 where
   pub inside : i ≤ length bs
   pub reads : o ≡ readFront (take (length bs - i) (drop i bs))
   pub begins : BeginsWith (take (length bs - i) (drop i bs)) o
 
-module _ (bs : List ℕ) (i : ℕ) (o : Result (Option Record) ReadFault) (told : Told bs i o) where
+module _ (bs : List ℕ) (i : ℕ) (o : Result (Option Record) ReadFault) (told : ReadAt bs i o) where
   here : o ≡ readFront (drop i bs)
   here = told .reads ∙ ap readFront (take-rest bs i)
 
@@ -63,15 +63,15 @@ module _ (bs : List ℕ) (i : ℕ) (o : Result (Option Record) ReadFault) (told 
       at-place (Err f) e = told .inside
 
 -- where a record is read, the reader moves on
-pub goes-on : (bs : List ℕ) (i : ℕ) (p : Placed) → answer bs i ≡ Ok (Some p) → i < after bs i
-goes-on bs i p e = let on = ap (behind i) e in omega (arith, on)
+pub moves-on : (bs : List ℕ) (i : ℕ) (p : Placed) → answer bs i ≡ Ok (Some p) → i < after bs i
+moves-on bs i p e = let on = ap (behind i) e in omega (arith, on)
 
 -- a record's bytes are read back at their place among any others
 reads-back : (r : Record) → Fit (widths (kindByte r)) (fieldsOf r) → ReadsBack r (recordBytes r)
 reads-back r f before rest =
     let bs = recordBytes r ++ rest in
     let here : answer (before ++ bs) (length before) ≡ Ok (Some (record { place = length before; «record» = r })) = ap (λ (l : List ℕ). withPlace (length before) (readFront l)) (drop-append-seam before bs) ∙ ap (withPlace (length before)) (read-back r rest f) in
-    (here, ap (behind (length before)) here ∙ ap (λ (n : ℕ). length before + n) (sym (length-recordBytes r f)))
+    (here, ap (behind (length before)) here)
 
 -- what `write` ensures, from what `put` does with the record's bytes
 pub record Wrote (r : Record) (old : List ℕ) (a : Result ℕ WriteFault) (new : List ℕ) : Type 0 where

@@ -1,14 +1,15 @@
 -- The format of a record: a byte of kind, then a body whose length the kind fixes.
 -- Words:
--- `kind`, a record's first byte
+-- `kindByte`, a record's first byte
 -- `widths`, the layout of a kind's body: how many bytes each of its numbers has, in order
--- `fields`, a record's numbers in the order of its bytes
+-- `fieldsOf`, a record's numbers in the order of its bytes
 -- `recordBytes`, its bytes
 use mathlib.Core.Bool.{cond}
 use mathlib.Core.List.{List, [], _∷_}
-use Prim.Native.Nat.{ℕ, _+_}
+use Prim.Native.Nat.{ℕ}
 use lib.Dec.{eqb}
-use Rattle.journal.specs.Numbers.{rowBytes, rowLength}
+use lib.ListN.{length}
+use Rattle.journal.specs.Numbers.{rowBytes}
 use Rattle.journal.specs.declared.kinds.Day.{Day}
 use Rattle.journal.specs.declared.kinds.Record.{Record}
 use Rattle.journal.specs.declared.kinds.Record.the-variants.{Open, Post, Correct, Close, Pay, Settle}
@@ -72,4 +73,4 @@ recordBytes r = kindByte r ∷ rowBytes (widths (kindByte r)) (fieldsOf r)
 
 -- how many bytes that is
 abbrev pub recordLength : Record → ℕ
-recordLength r = 1 + rowLength (widths (kindByte r))
+recordLength r = length (recordBytes r)

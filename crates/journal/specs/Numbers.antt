@@ -1,7 +1,7 @@
 -- Numbers in bytes, the lowest byte first.
 -- Words:
--- `number`, what some bytes stand for, and `numbers`, what a row of them does by its widths
--- `low`, the bytes of a number, and `bytes`, those of a row of numbers by its widths
+-- `numberAt`, what some bytes stand for, and `rowAt`, what they do as a row of numbers of given widths
+-- `lowBytes`, the bytes of a number, and `rowBytes`, those of a row of numbers of given widths
 use mathlib.Core.List.{List, [], _∷_, _++_}
 use Prim.Native.Nat.{ℕ, zero, suc, _+_, _*_, _/_, _%_, _<_}
 use lib.ListN.{getD}

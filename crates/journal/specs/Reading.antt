@@ -42,7 +42,7 @@ dayOf ns = record {
   «variance_rate» = getD ns 9 0;
 }
 
--- the record of a kind whose numbers are given in the order of its bytes
+-- the record of one of the six kinds whose numbers are given in the order of its bytes; it is asked of no other kind
 abbrev pub recordOf : ℕ → List ℕ → Record
 recordOf k ns =
     cond (eqb k 1) (Open (getD ns 0 0) (getD ns 1 0) (getD ns 2 0) (getD ns 3 0))
@@ -51,13 +51,17 @@ recordOf k ns =
     (cond (eqb k 4) (Close (getD ns 0 0) (getD ns 1 0) (getD ns 2 0) (getD ns 3 0))
     (cond (eqb k 5) (Pay (getD ns 0 0)) (Settle (getD ns 0 0) (getD ns 1 0))))))
 
--- cut short where the body is longer than what is left
-abbrev pub readBody : ℕ → List ℕ → Result Record ReadFault
-readBody k rest = cond (leb (rowLength (widths k)) (length rest)) (Ok (recordOf k (rowAt (widths k) rest 0))) (Err CutShort)
+-- cut short where fewer bytes are left than the row of numbers takes, else what is made of the numbers
+abbrev pub readRow : {A : Type 0} → List ℕ → (List ℕ → A) → List ℕ → Result A ReadFault
+readRow ws make rest = cond (leb (rowLength ws) (length rest)) (Ok (make (rowAt ws rest 0))) (Err CutShort)
 
--- the day alone, as post and correct carry it
+-- the day that post and correct carry
 abbrev pub readDay : List ℕ → Result Day ReadFault
-readDay rest = cond (leb (rowLength dayWidths) (length rest)) (Ok (dayOf (rowAt dayWidths rest 0))) (Err CutShort)
+readDay rest = readRow dayWidths dayOf rest
+
+-- a record of one of the six kinds
+abbrev pub readBody : ℕ → List ℕ → Result Record ReadFault
+readBody k rest = readRow (widths k) (recordOf k) rest
 
 -- an unknown kind is refused as such, however short the rest
 abbrev pub readRecord : ℕ → List ℕ → Result Record ReadFault

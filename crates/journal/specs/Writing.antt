@@ -13,19 +13,20 @@ use Rattle.journal.specs.Format.{recordBytes}
 
 -- an exactly fitting buffer has room
 abbrev pub hasRoom : List ℕ → List ℕ → Bool
-hasRoom rowBytes buffer = leb (length rowBytes) (length buffer)
+hasRoom bs buffer = leb (length bs) (length buffer)
 
 -- how many bytes were put, or a refusal where the buffer is too short
 abbrev pub putAnswer : List ℕ → List ℕ → Result ℕ WriteFault
-putAnswer rowBytes buffer = cond (hasRoom rowBytes buffer) (Ok (length rowBytes)) (Err BufferTooShort)
+putAnswer bs buffer = cond (hasRoom bs buffer) (Ok (length bs)) (Err BufferTooShort)
 
 -- the bytes in front of what stood behind them; the whole buffer as it was after a refusal
 abbrev pub bufferWith : List ℕ → List ℕ → List ℕ
-bufferWith rowBytes buffer = cond (hasRoom rowBytes buffer) (rowBytes ++ drop (length rowBytes) buffer) buffer
+bufferWith bs buffer = cond (hasRoom bs buffer) (bs ++ drop (length bs) buffer) buffer
 
--- the same of a record's bytes
+-- the record's length, or the refusal
 abbrev pub writeAnswer : Record → List ℕ → Result ℕ WriteFault
 writeAnswer r buffer = putAnswer (recordBytes r) buffer
 
+-- the record's bytes in front of what stood behind them, or the buffer as it was
 abbrev pub bufferAfter : Record → List ℕ → List ℕ
 bufferAfter r buffer = bufferWith (recordBytes r) buffer

@@ -9,12 +9,12 @@ use super::kinds::Record;
 fn open(body: &[u8]) -> Result<Record, ReadFault>
     ensures { λ r. ⌜ r ≡ readBody 1 (now (body .entry)) ⌝ }
 {
-    let [leap, p0, p1, first, last, ..] = body else {
+    let [leap, i0, i1, first, last, ..] = body else {
         return Err(ReadFault::CutShort);
     };
     Ok(Record::Open {
         leap: *leap,
-        increase: u16::from_le_bytes([*p0, *p1]),
+        increase: u16::from_le_bytes([*i0, *i1]),
         first: *first,
         last: *last,
     })
@@ -37,18 +37,18 @@ fn day(body: &[u8]) -> Result<Day, ReadFault>
         r1,
         r2,
         r3,
-        c0,
-        c1,
-        c2,
-        c3,
-        h0,
-        h1,
-        h2,
-        h3,
-        i0,
-        i1,
-        i2,
-        i3,
+        m0,
+        m1,
+        m2,
+        m3,
+        a0,
+        a1,
+        a2,
+        a3,
+        s0,
+        s1,
+        s2,
+        s3,
         v0,
         v1,
         v2,
@@ -65,9 +65,9 @@ fn day(body: &[u8]) -> Result<Day, ReadFault>
         curtailed: *curtailed,
         nomination: u32::from_le_bytes([*n0, *n1, *n2, *n3]),
         receipts: u32::from_le_bytes([*r0, *r1, *r2, *r3]),
-        reading: u32::from_le_bytes([*c0, *c1, *c2, *c3]),
-        after_notice: u32::from_le_bytes([*h0, *h1, *h2, *h3]),
-        supply_cost: u32::from_le_bytes([*i0, *i1, *i2, *i3]),
+        reading: u32::from_le_bytes([*m0, *m1, *m2, *m3]),
+        after_notice: u32::from_le_bytes([*a0, *a1, *a2, *a3]),
+        supply_cost: u32::from_le_bytes([*s0, *s1, *s2, *s3]),
         variance_rate: u32::from_le_bytes([*v0, *v1, *v2, *v3]),
     })
 }
@@ -75,14 +75,14 @@ fn day(body: &[u8]) -> Result<Day, ReadFault>
 fn close(body: &[u8]) -> Result<Record, ReadFault>
     ensures { λ r. ⌜ r ≡ readBody 4 (now (body .entry)) ⌝ }
 {
-    let [month, x0, x1, x2, x3, y0, y1, y2, y3, z0, z1, z2, z3, ..] = body else {
+    let [month, i0, i1, i2, i3, t0, t1, t2, t3, f0, f1, f2, f3, ..] = body else {
         return Err(ReadFault::CutShort);
     };
     Ok(Record::Close {
         month: *month,
-        index: u32::from_le_bytes([*x0, *x1, *x2, *x3]),
-        interruptible: u32::from_le_bytes([*y0, *y1, *y2, *y3]),
-        firm: u32::from_le_bytes([*z0, *z1, *z2, *z3]),
+        index: u32::from_le_bytes([*i0, *i1, *i2, *i3]),
+        interruptible: u32::from_le_bytes([*t0, *t1, *t2, *t3]),
+        firm: u32::from_le_bytes([*f0, *f1, *f2, *f3]),
     })
 }
 

@@ -60,8 +60,7 @@ impl Record {
     {
         match self {
             Record::Open { .. } => 6,
-            Record::Post { .. } => 29,
-            Record::Correct { .. } => 29,
+            Record::Post { .. } | Record::Correct { .. } => 29,
             Record::Close { .. } => 14,
             Record::Pay { .. } => 9,
             Record::Settle { .. } => 5,

@@ -3,7 +3,7 @@ ghost use Prim.Native.Nat.{_≤_};
 ghost use denote.Ref.{now};
 ghost use lib.ListN.{length};
 
-pub mod ops;
+mod ops;
 
 // The journal's bytes and the place of the next record among them.
 #[derive(Drop)]

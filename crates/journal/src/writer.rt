@@ -1,7 +1,7 @@
 // Writing records at the start of a caller's buffer.
 ghost use mathlib.Core.Path.{_≡_};
 ghost use mathlib.Core.List.{_∷_};
-ghost use lib.ListN.{length, take};
+ghost use lib.ListN.{take};
 ghost use Rattle.std.specs.Vec.{made};
 ghost use Rattle.journal.specs.Format.{dayBytes, dayFields, dayWidths, recordBytes};
 ghost use Rattle.journal.specs.Numbers.{Fit};
@@ -32,9 +32,9 @@ fn day_bytes(kind: u8, day: Day) -> [u8; 29]
 {
     let [n0, n1, n2, n3] = day.nomination.to_le_bytes();
     let [r0, r1, r2, r3] = day.receipts.to_le_bytes();
-    let [c0, c1, c2, c3] = day.reading.to_le_bytes();
-    let [h0, h1, h2, h3] = day.after_notice.to_le_bytes();
-    let [i0, i1, i2, i3] = day.supply_cost.to_le_bytes();
+    let [m0, m1, m2, m3] = day.reading.to_le_bytes();
+    let [a0, a1, a2, a3] = day.after_notice.to_le_bytes();
+    let [s0, s1, s2, s3] = day.supply_cost.to_le_bytes();
     let [v0, v1, v2, v3] = day.variance_rate.to_le_bytes();
     [
         kind,
@@ -50,18 +50,18 @@ fn day_bytes(kind: u8, day: Day) -> [u8; 29]
         r1,
         r2,
         r3,
-        c0,
-        c1,
-        c2,
-        c3,
-        h0,
-        h1,
-        h2,
-        h3,
-        i0,
-        i1,
-        i2,
-        i3,
+        m0,
+        m1,
+        m2,
+        m3,
+        a0,
+        a1,
+        a2,
+        a3,
+        s0,
+        s1,
+        s2,
+        s3,
         v0,
         v1,
         v2,
@@ -72,17 +72,17 @@ fn day_bytes(kind: u8, day: Day) -> [u8; 29]
 fn open_bytes(leap: u8, increase: u16, first: u8, last: u8) -> [u8; 6]
     ensures { λ r. ⌜ r ≡ recordBytes (Open leap increase first last) ⌝ }
 {
-    let [p0, p1] = increase.to_le_bytes();
-    [1, leap, p0, p1, first, last]
+    let [i0, i1] = increase.to_le_bytes();
+    [1, leap, i0, i1, first, last]
 }
 
 fn close_bytes(month: u8, index: u32, interruptible: u32, firm: u32) -> [u8; 14]
     ensures { λ r. ⌜ r ≡ recordBytes (Close month index interruptible firm) ⌝ }
 {
-    let [x0, x1, x2, x3] = index.to_le_bytes();
-    let [y0, y1, y2, y3] = interruptible.to_le_bytes();
-    let [z0, z1, z2, z3] = firm.to_le_bytes();
-    [4, month, x0, x1, x2, x3, y0, y1, y2, y3, z0, z1, z2, z3]
+    let [i0, i1, i2, i3] = index.to_le_bytes();
+    let [t0, t1, t2, t3] = interruptible.to_le_bytes();
+    let [f0, f1, f2, f3] = firm.to_le_bytes();
+    [4, month, i0, i1, i2, i3, t0, t1, t2, t3, f0, f1, f2, f3]
 }
 
 fn pay_bytes(amount: u64) -> [u8; 9]

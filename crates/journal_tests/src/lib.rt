@@ -155,12 +155,30 @@ mod tests {
         check_eq(WriteFault::BufferTooShort.number(), 10)
     }
 
+    // A byte for each place, so that no two runs of the stream look alike.
+    fn patterned() -> [u8; 70_000] {
+        let mut bytes = [0; 70_000];
+        for (i, b) in bytes.iter_mut().enumerate() {
+            *b = (i % 251) as u8;
+        }
+        bytes
+    }
+
     #[test]
-    fn a_stream_is_taken_up_to_its_longest(rt: LibcRuntime) -> Result<(), Fail> {
-        let bytes = [7; 65_537];
-        let longest = load(rt.alloc(), &bytes[0..65_536])?;
-        check_eq(longest.ok_or("none")?.len(), 65_536)?;
-        let longer = load(rt.alloc(), &bytes[0..65_537])?;
-        check(longer.is_none())
+    fn a_stream_is_taken_whole_up_to_its_longest(rt: LibcRuntime) -> Result<(), Fail> {
+        let bytes = patterned();
+        for n in [0, 1, 65_535, 65_536] {
+            let taken = load(rt.alloc(), &bytes[0..n])?.ok_or("none")?;
+            check(taken.as_slice() == &bytes[0..n])?;
+        }
+        Ok(())
+    }
+
+    #[test]
+    fn a_longer_stream_is_left_after_one_byte_too_many(rt: LibcRuntime) -> Result<(), Fail> {
+        let bytes = patterned();
+        let mut stream = &bytes[0..];
+        check(load(rt.alloc(), &mut stream)?.is_none())?;
+        check_eq(stream.len(), 70_000 - 65_537)
     }
 }

@@ -1,7 +1,7 @@
 -- What the listing's loop keeps from record to record.
-use mathlib.Core.Path.{_≡_, refl, sym, ap, subst, _∙_}
+use mathlib.Core.Path.{_≡_, sym, ap, subst, _∙_}
 use mathlib.Core.List.{List, [], _∷_, _++_, append-nil, append-assoc}
-use Prim.Native.Nat.{ℕ, _+_, _≤_, _<_}
+use Prim.Native.Nat.{ℕ, _+_, _≤_}
 use native.Mathlib.Omega.{arith}
 use lib.Chars.{codes}
 use Rattle.std.specs.declared.option.Option.{Option}
@@ -10,7 +10,7 @@ use Rattle.std.specs.declared.result.Result.the-variants.{Ok, Err}
 use Rattle.journal.specs.declared.faults.ReadFault.{ReadFault}
 use Rattle.journal.specs.declared.kinds.Placed.{Placed}
 use Rattle.journal.specs.Reading.{answer, after, Gives}
-use Rattle.journal.proofs.Steps.{goes-on}
+use Rattle.journal.proofs.Steps.{moves-on}
 use Rattle.records.specs.Rows.{rowText, refusalText, listingText, Lists}
 
 -- the text lists the journal up to place i, k - 1 records: with what the reader gives from there on it lists the whole
@@ -30,7 +30,7 @@ module _ (bs text : List ℕ) (i k : ℕ) (s : Sofar bs text i k) where
 
   pub one-more : (p : Placed) (more : List ℕ) (j : ℕ) → answer bs i ≡ Ok (Some p) → more ≡ text ++ (rowText k p ++ codes "\n") → j ≡ after bs i → Sofar bs more j (k + 1)
   one-more p more j e m on = record {
-    few = omega (arith, s .few, goes-on bs i p e);
+    few = omega (arith, s .few, moves-on bs i p e);
     rest = λ ps end h. subst (Lists bs) (joins (listingText (k + 1) ps end)) (s .rest (p ∷ ps) end (e, subst (λ (n : ℕ). Gives bs n ps end) on h));
   }
     where

@@ -1,6 +1,4 @@
 // The text of one record, and of a refusal.
-ghost use mathlib.Core.List.{_++_};
-ghost use lib.Chars.{codes};
 ghost use Rattle.std.specs.declared.option.Option.the-variants.{Some};
 ghost use Rattle.journal.specs.Format.{dayFields};
 ghost use Rattle.records.specs.Rows.{dayNames, fieldsText, recordText, rowText, refusalText};

@@ -41,9 +41,9 @@ impl<'a> Reader<'a> {
     // The next record with its place, or none at the journal's end. A refusal does not move the reader.
     pub fn next(&mut self) -> Result<Option<Placed>, ReadFault>
         ensures answers { λ r. ⌜ r ≡ answer (now (now (self .entry) .bytes)) (now (self .entry) .at) ⌝ }
-        ensures moves { λ r. ⌜ now (self .exit) .at ≡ after (now (now (self .entry) .bytes)) (now (self .entry) .at) ⌝ }
+        ensures moves { λ _. ⌜ now (self .exit) .at ≡ after (now (now (self .entry) .bytes)) (now (self .entry) .at) ⌝ }
         ensures rewrites { λ r. ⌜ Rewrites (now (now (self .entry) .bytes)) r ⌝ }
-        ensures same { λ r. ⌜ now (self .exit) .bytes ≡ now (self .entry) .bytes ⌝ }
+        ensures same { λ _. ⌜ now (self .exit) .bytes ≡ now (self .entry) .bytes ⌝ }
     {
         let read = read_at(self.bytes, self.at);
         if let Ok(Some(placed)) = read {
