@@ -1,4 +1,4 @@
--- The format of a record: a byte of kind, then a body whose length the kind fixes.
+-- How a record lies in bytes: its kind byte, and behind it the numbers that records of that kind have.
 -- Words:
 -- `kindByte`, a record's first byte
 -- `widths`, the layout of a kind's body: how many bytes each of its numbers has, in order

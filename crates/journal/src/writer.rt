@@ -100,8 +100,8 @@ fn settle_bytes(final_increase: u16, interest: u16) -> [u8; 5]
     [6, f0, f1, i0, i1]
 }
 
-// The record's bytes at the start of the buffer: answers their number, and touches no byte behind them.
-// A buffer that is too short is refused and stays as it was.
+// Puts the record's bytes at the start of the buffer and answers how many they are; what stands behind them stays.
+// A buffer that is too short is refused, and stays whole.
 pub fn write(record: &Record, buffer: &mut [u8]) -> Result<usize, WriteFault>
     ensures answers { λ r. ⌜ r ≡ writeAnswer (now («record» .entry)) (now (buffer .entry)) ⌝ }
     ensures leaves { λ _. ⌜ now (buffer .exit) ≡ bufferAfter (now («record» .entry)) (now (buffer .entry)) ⌝ }

@@ -38,7 +38,7 @@ impl<'a> Reader<'a> {
         self.at
     }
 
-    // The next record with its place, or none at the journal's end. A refusal does not move the reader.
+    // The next record with its place, or none at the journal's end. Only a record moves the reader on.
     pub fn next(&mut self) -> Result<Option<Placed>, ReadFault>
         ensures answers { λ r. ⌜ r ≡ answer (now (now (self .entry) .bytes)) (now (self .entry) .at) ⌝ }
         ensures moves { λ _. ⌜ now (self .exit) .at ≡ after (now (now (self .entry) .bytes)) (now (self .entry) .at) ⌝ }
