@@ -1,0 +1,26 @@
+// The numbers of a month: those that close it, and its totals.
+ghost use mathlib.Core.Path.{_≡_};
+ghost use Prim.Native.Nat.{_≤_};
+
+mod ops;
+
+use crate::units::Rate;
+use crate::units::Therms;
+
+// What closes a month: the price index, and the interruptible and the firm transport rate.
+#[derive(Clone, Copy)]
+pub struct Closing {
+    pub index: Rate,
+    pub interruptible: Rate,
+    pub firm: Rate,
+}
+
+// A month's receipts and readings, added up over its days, and what closes it.
+#[derive(Clone, Copy)]
+pub struct Totals {
+    pub receipts: Therms,
+    pub readings: Therms,
+    pub closing: Closing,
+    ghost received: { receipts .count ≤ 6200000 },
+    ghost metered: { readings .count ≤ 6200000 },
+}
