@@ -6,7 +6,8 @@ use Rattle.std.specs.declared.result.Result.{Result}
 use Rattle.std.specs.declared.result.Result.the-variants.{Ok, Err}
 use Rattle.gas.specs.declared.day.DayNumbers.{DayNumbers}
 use Rattle.gas.specs.declared.faults.InputFault.{InputFault}
-use Rattle.gas.specs.declared.faults.InputFault.the-variants.{Month, Day, DayKind, Mark, Quantity, PerMille, MissingDay}
+use Rattle.gas.specs.declared.faults.InputFault.the-variants.{Month, DayKind, Mark, Quantity, PerMille}
+use Rattle.gas.specs.declared.month.TotalsNumbers.{TotalsNumbers}
 
 -- an answer by what was read of its value; a refusal stays as it is
 abbrev pub read : {A B F : Type 0} → (A → B) → Result A F → Result B F
@@ -53,9 +54,13 @@ checkedDay d =
     cond (leb (d .kind) 3) (cond (leb (d .curtailed) 1) (unless (lawfulDay d) Quantity d) (Err Mark)) (Err DayKind)
 
 -- the three numbers that close a month are rates
-abbrev pub checkedClosing : ℕ × ℕ × ℕ → Result (ℕ × ℕ × ℕ) InputFault
-checkedClosing n = unless (leb (n .0) 2000000 && (leb (n .1) 2000000 && leb (n .2) 2000000)) Quantity n
+abbrev pub closes : ℕ → ℕ → ℕ → Bool
+closes index interruptible firm = leb index 2000000 && (leb interruptible 2000000 && leb firm 2000000)
+
+abbrev pub checkedClosing : ℕ → ℕ → ℕ → Result (ℕ × ℕ × ℕ) InputFault
+checkedClosing index interruptible firm = unless (closes index interruptible firm) Quantity (index, interruptible, firm)
 
 -- a month's receipts and readings are at most 31 days' worth
-abbrev pub checkedTotals : ℕ → ℕ → ℕ × ℕ × ℕ → Result (ℕ × ℕ × (ℕ × ℕ × ℕ)) InputFault
-checkedTotals received metered closing = unless (leb received 6200000 && leb metered 6200000) Quantity (received, metered, closing)
+abbrev pub checkedTotals : TotalsNumbers → Result TotalsNumbers InputFault
+checkedTotals t =
+    unless (leb (t .receipts) 6200000 && (leb (t .readings) 6200000 && closes (t .index) (t .interruptible) (t .firm))) Quantity t

@@ -3,5 +3,7 @@ pub mod Day
 pub mod Facts
 pub mod Faults
 pub mod Inputs
+pub mod Items
+pub mod Limits
 pub mod Money
 pub mod Month

@@ -1,11 +1,16 @@
 // What a gas account is made of: therms, money and rates, the calendar, the lawful facts of days and months, and the interfaces of pipelines and rate schedules.
+mod amount;
 mod calendar;
 mod day;
 mod facts;
 mod faults;
+mod items;
 mod month;
+mod pipeline;
+mod schedule;
 mod units;
 
+pub use amount::Amount;
 pub use calendar::Month;
 pub use day::DayKind;
 pub use day::DayNumbers;
@@ -13,8 +18,14 @@ pub use day::DayRecord;
 pub use facts::Facts;
 pub use facts::MonthNumbers;
 pub use faults::InputFault;
+pub use items::Item;
+pub use items::Layer;
+pub use items::ScheduleFault;
 pub use month::Closing;
 pub use month::Totals;
+pub use month::TotalsNumbers;
+pub use pipeline::Pipeline;
+pub use schedule::Schedule;
 pub use units::Millicents;
 pub use units::Rate;
 pub use units::Therms;

@@ -1,5 +1,4 @@
 // The numbers of a month: those that close it, and its totals.
-ghost use mathlib.Core.Path.{_≡_};
 ghost use Prim.Native.Nat.{_≤_};
 
 mod ops;
@@ -13,6 +12,16 @@ pub struct Closing {
     pub index: Rate,
     pub interruptible: Rate,
     pub firm: Rate,
+}
+
+// A month's five numbers, lawful or not: its receipts and readings in therms, and what closes it.
+#[derive(Clone, Copy)]
+pub struct TotalsNumbers {
+    pub receipts: u32,
+    pub readings: u32,
+    pub index: u32,
+    pub interruptible: u32,
+    pub firm: u32,
 }
 
 // A month's receipts and readings, added up over its days, and what closes it.
