@@ -1,2 +1,3 @@
+pub mod Lawful
 pub mod Money
 pub mod Sums

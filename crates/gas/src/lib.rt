@@ -27,5 +27,7 @@ pub use month::TotalsNumbers;
 pub use pipeline::Pipeline;
 pub use schedule::Schedule;
 pub use units::Millicents;
+pub use units::MillicentsAdd;
+pub use units::PerMille;
 pub use units::Rate;
 pub use units::Therms;

@@ -1,0 +1,2 @@
+pub mod Balancing
+pub mod Northern
