@@ -1,4 +1,5 @@
 pub mod Balancing
+pub mod Classes
 pub mod Faults
 pub mod Northern
 pub mod Tolerance

@@ -1,14 +1,27 @@
 // The tariff: the pipelines that carry the gas, the rate classes, and the riders upon them.
 mod balancing;
+mod class;
+mod classes;
 mod faults;
+mod firm;
 mod northern;
+mod sums;
 mod terms;
 mod tolerance;
 
+pub use class::Class;
+pub use class::ClassSchedule;
+pub use class::RateClass;
+pub use classes::FirmInterruptibleClass;
+pub use classes::LargeDualFuel;
+pub use classes::LargeDualFuelClass;
+pub use classes::SmallDualFuel;
+pub use classes::SmallDualFuelClass;
 pub use faults::TermsFault;
 pub use faults::TermsFaultDebug;
 pub use faults::TermsFaultEq;
 pub use faults::TermsFaultPartialEq;
+pub use firm::FirmInterruptible;
 pub use northern::Northern;
 pub use northern::NorthernPipeline;
 pub use terms::MonthTerms;
