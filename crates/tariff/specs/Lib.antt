@@ -2,4 +2,5 @@ pub mod Balancing
 pub mod Classes
 pub mod Faults
 pub mod Northern
+pub mod Riders
 pub mod Tolerance

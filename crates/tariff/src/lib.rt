@@ -5,6 +5,7 @@ mod classes;
 mod faults;
 mod firm;
 mod northern;
+mod riders;
 mod sums;
 mod terms;
 mod tolerance;
