@@ -1,3 +1,4 @@
 pub mod Adding
 pub mod Bounds
+pub mod Dates
 pub mod Summing

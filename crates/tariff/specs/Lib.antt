@@ -4,3 +4,4 @@ pub mod Faults
 pub mod Northern
 pub mod Riders
 pub mod Tolerance
+pub mod Weather
