@@ -1,4 +1,5 @@
 pub mod Adding
 pub mod Bounds
 pub mod Dates
+pub mod Ridden
 pub mod Summing

@@ -5,3 +5,4 @@ pub mod Northern
 pub mod Riders
 pub mod Tolerance
 pub mod Weather
+pub mod Worked
