@@ -1,12 +1,8 @@
--- The number by which each refusal of a tariff's terms is known.
+-- The number by which each refusal of a class's numbers is known.
 use Prim.Native.Nat.{ℕ}
-use Rattle.gas.specs.Faults.{inputNumber}
-use Rattle.tariff.specs.declared.faults.TermsFault.{TermsFault}
-use Rattle.tariff.specs.declared.faults.TermsFault.the-variants.{Input, BaseLevel, Percent, GasYear}
+use Rattle.tariff.specs.declared.faults.ClassFault.{ClassFault}
+use Rattle.tariff.specs.declared.faults.ClassFault.the-variants.{BaseLevel}
 
--- 7: a base level outside its limits. 8: a percentage above its limit. 11: a gas year without weather rates.
-abbrev pub termsNumber : TermsFault → ℕ
-termsNumber (Input f) = inputNumber f
-termsNumber BaseLevel = 7
-termsNumber Percent = 8
-termsNumber GasYear = 11
+-- 7: a base level outside its limits
+abbrev pub classNumber : ClassFault → ℕ
+classNumber BaseLevel = 7

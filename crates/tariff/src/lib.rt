@@ -1,16 +1,9 @@
-// The tariff: the pipelines that carry the gas, the rate classes, and the riders upon them.
-mod balancing;
+// The rate classes, each of which is a schedule over any pipeline.
 mod class;
 mod classes;
 mod faults;
 mod firm;
-mod northern;
-mod riders;
-mod spans;
 mod sums;
-mod terms;
-mod tolerance;
-mod weather;
 mod worked;
 
 pub use class::Class;
@@ -21,26 +14,9 @@ pub use classes::LargeDualFuel;
 pub use classes::LargeDualFuelClass;
 pub use classes::SmallDualFuel;
 pub use classes::SmallDualFuelClass;
-pub use faults::TermsFault;
-pub use faults::TermsFaultDebug;
-pub use faults::TermsFaultEq;
-pub use faults::TermsFaultPartialEq;
+pub use faults::ClassFault;
+pub use faults::ClassFaultDebug;
+pub use faults::ClassFaultEq;
+pub use faults::ClassFaultPartialEq;
 pub use firm::FirmInterruptible;
-pub use northern::Northern;
-pub use northern::NorthernPipeline;
-pub use riders::Affordability;
-pub use riders::AffordabilitySchedule;
-pub use riders::Franchise;
-pub use riders::FranchiseSchedule;
-pub use riders::Interim;
-pub use riders::InterimSchedule;
-pub use riders::Weather;
-pub use riders::WeatherSchedule;
-pub use spans::GasYear;
-pub use terms::MonthTerms;
-pub use terms::Tolerance;
-pub use terms::ToleranceNumbers;
-pub use tolerance::TolerancePipeline;
-pub use weather::weather_rate;
-pub use worked::weather_months;
 pub use worked::worked_edges;

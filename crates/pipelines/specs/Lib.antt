@@ -1,0 +1,4 @@
+pub mod Balancing
+pub mod Faults
+pub mod Northern
+pub mod Tolerance

@@ -1,0 +1,4 @@
+pub mod Faults
+pub mod Riders
+pub mod Weather
+pub mod Worked
