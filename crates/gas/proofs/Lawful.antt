@@ -1,4 +1,4 @@
--- What it means that totals are lawful.
+-- What it means that totals or a day are lawful.
 use mathlib.Core.Bool.{Bool, true, false, cond, _&&_}
 use mathlib.Core.Path.{_≡_, refl}
 use Prim.Native.Nat.{ℕ, _≤_}
@@ -7,8 +7,10 @@ use lib.Dec.{leb}
 use Rattle.std.proofs.shelf.Tests.{and-parts, leb-true}
 use Rattle.std.specs.declared.result.Result.{Result}
 use Rattle.std.specs.declared.result.Result.the-variants.{Ok, Err}
+use Rattle.gas.specs.declared.day.DayNumbers.{DayNumbers}
+use Rattle.gas.specs.declared.faults.InputFault.the-variants.{DayKind, Mark, Quantity}
 use Rattle.gas.specs.declared.month.TotalsNumbers.{TotalsNumbers}
-use Rattle.gas.specs.Inputs.{checkedTotals, closes, unless}
+use Rattle.gas.specs.Inputs.{checkedDay, checkedTotals, lawfulDay, unless}
 
 -- what was taken has passed its test
 pub taken : {A F : Type 0} (b : Bool) (e : F) (a : A) → unless b e a ≡ Ok a → b ≡ true
@@ -35,3 +37,16 @@ lawful t h =
       interrupted = leb-true _ _ (four .0);
       held = leb-true _ _ (four .1);
     }
+
+-- what passed a test was not refused there
+passed : {A F : Type 0} (b : Bool) (r : Result A F) (e : F) (a : A) → Ok a ≡ cond b r (Err e) → Ok a ≡ r
+passed true r e a h = h
+passed false r e a h = absurd (let z : _≡_ {A = ℕ} 0 1 = cc in omega arith)
+
+-- a day that was made has the numbers of which it was made
+pub day-made-of : (n m : DayNumbers) → Ok m ≡ checkedDay n → m ≡ n
+day-made-of n m h =
+    let one : Ok m ≡ cond (leb (n .curtailed) 1) (unless (lawfulDay n) Quantity n) (Err Mark) = passed (leb (n .kind) 3) _ DayKind m h in
+    let two : Ok m ≡ unless (lawfulDay n) Quantity n = passed (leb (n .curtailed) 1) _ Mark m one in
+    let three : Ok m ≡ Ok n = passed (lawfulDay n) (Ok n) Quantity m two in
+    cc
