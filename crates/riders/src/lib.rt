@@ -1,23 +1,26 @@
 // The riders, each of which stands on any schedule and is one.
+mod affordability;
 mod charges;
 mod faults;
-mod riders;
+mod franchise;
+mod interim;
+mod rates;
 mod spans;
 mod weather;
 mod worked;
 
+pub use affordability::Affordability;
+pub use affordability::AffordabilitySchedule;
 pub use faults::RiderFault;
 pub use faults::RiderFaultDebug;
 pub use faults::RiderFaultEq;
 pub use faults::RiderFaultPartialEq;
-pub use riders::Affordability;
-pub use riders::AffordabilitySchedule;
-pub use riders::Franchise;
-pub use riders::FranchiseSchedule;
-pub use riders::Interim;
-pub use riders::InterimSchedule;
-pub use riders::Weather;
-pub use riders::WeatherSchedule;
+pub use franchise::Franchise;
+pub use franchise::FranchiseSchedule;
+pub use interim::Interim;
+pub use interim::InterimSchedule;
+pub use rates::weather_rate;
 pub use spans::GasYear;
-pub use weather::weather_rate;
+pub use weather::Weather;
+pub use weather::WeatherSchedule;
 pub use worked::weather_months;
