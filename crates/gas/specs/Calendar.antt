@@ -17,6 +17,10 @@ leapYear = 30 ∷ 31 ∷ 31 ∷ 29 ∷ 31 ∷ 30 ∷ 31 ∷ 30 ∷ 31 ∷ 31 ∷
 abbrev pub monthLength : Bool → ℕ → ℕ
 monthLength leap month = getD (cond leap leapYear commonYear) month 0
 
+-- the last day of a month that has so many days: a February of 29 is that of a leap year
+abbrev pub monthEnd : ℕ → ℕ → ℕ
+monthEnd month n = monthLength (eqb n 29) month
+
 -- a month can have so many days: February 28 or 29
 abbrev pub isLength : ℕ → ℕ → Bool
 isLength month n = eqb n (monthLength false month) || eqb n (monthLength true month)

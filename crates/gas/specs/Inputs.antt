@@ -18,17 +18,35 @@ read f (Err e) = Err e
 abbrev pub unless : {A F : Type 0} → Bool → F → A → Result A F
 unless ok e a = cond ok (Ok a) (Err e)
 
--- a rate is at most 2,000,000 millicents per therm
-abbrev pub checkedRate : ℕ → Result ℕ InputFault
-checkedRate n = unless (leb n 2000000) Quantity n
+-- the most millicents per therm, and the most therms of a day and of a month, which is 31 days' worth
+abbrev pub mostPerTherm : ℕ
+mostPerTherm = 2000000
 
--- a per mille is at most 1,000
+abbrev pub mostADay : ℕ
+mostADay = 200000
+
+abbrev pub mostAMonth : ℕ
+mostAMonth = 6200000
+
+-- a rate has its most
+abbrev pub checkedRate : ℕ → Result ℕ InputFault
+checkedRate n = unless (leb n mostPerTherm) Quantity n
+
+-- the whole, in thousandths
+abbrev pub whole : ℕ
+whole = 1000
+
+-- a per mille is at most the whole
 abbrev pub checkedPerMille : ℕ → Result ℕ InputFault
-checkedPerMille n = unless (leb n 1000) PerMille n
+checkedPerMille n = unless (leb n whole) PerMille n
+
+-- October
+abbrev pub lastMonth : ℕ
+lastMonth = 11
 
 -- a month is 0 to 11
 abbrev pub checkedMonth : ℕ → Result ℕ InputFault
-checkedMonth n = unless (leb n 11) Month n
+checkedMonth n = unless (leb n lastMonth) Month n
 
 -- a day kind is 0 to 3
 abbrev pub checkedKind : ℕ → Result ℕ InputFault
@@ -42,11 +60,11 @@ checkedMark n = unless (leb n 1) Mark n
 abbrev pub checkedTherms : ℕ → ℕ → Result ℕ InputFault
 checkedTherms n most = unless (leb n most) Quantity n
 
--- nomination, receipts and reading are at most 200,000 therms, those after notice at most the reading; the cost and the rate are at most 2,000,000
+-- nomination, receipts and reading have their most, those after notice are at most the reading, and the cost and the rate are rates
 abbrev pub lawfulDay : DayNumbers → Bool
 lawfulDay d =
-    leb (d .nomination) 200000 && (leb (d .receipts) 200000 && (leb (d .reading) 200000 && (leb (d .«after_notice») (d .reading) &&
-    (leb (d .«supply_cost») 2000000 && leb (d .«variance_rate») 2000000))))
+    leb (d .nomination) mostADay && (leb (d .receipts) mostADay && (leb (d .reading) mostADay && (leb (d .«after_notice») (d .reading) &&
+    (leb (d .«supply_cost») mostPerTherm && leb (d .«variance_rate») mostPerTherm))))
 
 -- a day's kind comes first, then its mark, then its quantities
 abbrev pub checkedDay : DayNumbers → Result DayNumbers InputFault
@@ -55,12 +73,12 @@ checkedDay d =
 
 -- the three numbers that close a month are rates
 abbrev pub closes : ℕ → ℕ → ℕ → Bool
-closes index interruptible firm = leb index 2000000 && (leb interruptible 2000000 && leb firm 2000000)
+closes index interruptible firm = leb index mostPerTherm && (leb interruptible mostPerTherm && leb firm mostPerTherm)
 
 abbrev pub checkedClosing : ℕ → ℕ → ℕ → Result (ℕ × ℕ × ℕ) InputFault
 checkedClosing index interruptible firm = unless (closes index interruptible firm) Quantity (index, interruptible, firm)
 
--- a month's receipts and readings are at most 31 days' worth
+-- a month's receipts and readings have their most
 abbrev pub checkedTotals : TotalsNumbers → Result TotalsNumbers InputFault
 checkedTotals t =
-    unless (leb (t .receipts) 6200000 && (leb (t .readings) 6200000 && closes (t .index) (t .interruptible) (t .firm))) Quantity t
+    unless (leb (t .receipts) mostAMonth && (leb (t .readings) mostAMonth && closes (t .index) (t .interruptible) (t .firm))) Quantity t

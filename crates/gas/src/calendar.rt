@@ -5,6 +5,8 @@ ghost use Rattle.gas.specs.Calendar.{monthLength};
 ghost use Rattle.gas.specs.Inputs.{checkedMonth, read};
 use crate::faults::InputFault;
 
+const LAST_MONTH: u8 = 11;
+
 const COMMON_YEAR: [u8; 12] = [30, 31, 31, 28, 31, 30, 31, 30, 31, 31, 30, 31];
 
 const LEAP_YEAR: [u8; 12] = [30, 31, 31, 29, 31, 30, 31, 30, 31, 31, 30, 31];
@@ -19,7 +21,7 @@ impl Month {
     pub fn new(number: u8) -> Result<Month, InputFault>
         ensures { λ r. ⌜ read (λ m. m .number) r ≡ checkedMonth number ⌝ }
     {
-        if number > 11 {
+        if number > LAST_MONTH {
             return Err(InputFault::Month);
         }
         Ok(Month { number })

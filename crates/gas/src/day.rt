@@ -6,7 +6,7 @@ mod ops;
 use crate::units::Rate;
 use crate::units::Therms;
 
-// The utility calls a day that is none of the others normal. It may limit how far use may fall short of the nomination (SUL) or go past it (SOL), or call the day critical.
+// Most days are normal. On others the pipeline restricts how far use may fall short of the nomination (SUL, system under-run limitation), or how far it may exceed it (SOL, system over-run limitation), or it declares the day critical.
 #[derive(Clone, Copy)]
 pub enum DayKind {
     Normal,

@@ -11,7 +11,7 @@ pub enum InputFault {
     Mark,
     Quantity,
     PerMille,
-    MissingDay,
+    DayCount,
 }
 
 impl InputFault {
@@ -25,7 +25,7 @@ impl InputFault {
             InputFault::Mark => 6,
             InputFault::Quantity => 7,
             InputFault::PerMille => 8,
-            InputFault::MissingDay => 25,
+            InputFault::DayCount => 25,
         }
     }
 }

@@ -20,7 +20,7 @@ pub trait Pipeline {
     ghost monthly: { Self → TotalsNumbers → ℤ };
 
     // a day costs at most 4 × 10^11
-    law day_within: { (p : Self) (month : ℕ) (day : DayRecord) → daily p month day ≤ 400000000000 };
+    law day_within: { (p : Self) (month : ℕ) (day : DayRecord) → month ≤ 11 → daily p month day ≤ 400000000000 };
 
     // a lawful month lies within 4 × 10^13 of zero
     law month_within: { (p : Self) (totals : TotalsNumbers) → checkedTotals totals ≡ Ok totals → natAbs (monthly p totals) ≤ 40000000000000 };

@@ -10,11 +10,11 @@ use Rattle.gas.specs.declared.day.DayRecord.{DayRecord}
 use Rattle.gas.specs.Day.{numbersOf}
 use Rattle.gas.specs.Inputs.{checkedDay}
 use Rattle.gas.proofs.Lawful.{day-made-of}
-use Rattle.prices.specs.declared.days.Sort.{Sort}
-use Rattle.prices.specs.Sorts.{dayOf, daysTo}
+use Rattle.prices.specs.declared.days.Pattern.{Pattern}
+use Rattle.prices.specs.Patterns.{dayOf, daysTo}
 
-pub one-more : (sort : Sort) (i : ℕ) (days more : List DayRecord) (d : DayRecord) (n : DayNumbers) → map numbersOf days ≡ daysTo sort i → n ≡ dayOf sort (i + 1) → Ok (numbersOf d) ≡ checkedDay n → more ≡ days ++ (d ∷ []) → map numbersOf more ≡ daysTo sort (i + 1)
-one-more sort i days more d n sofar is made m =
+pub one-more : (pattern : Pattern) (i : ℕ) (days more : List DayRecord) (d : DayRecord) (n : DayNumbers) → map numbersOf days ≡ daysTo pattern i → n ≡ dayOf pattern (i + 1) → Ok (numbersOf d) ≡ checkedDay n → more ≡ days ++ (d ∷ []) → map numbersOf more ≡ daysTo pattern (i + 1)
+one-more pattern i days more d n sofar is made m =
     ap (map numbersOf) m ∙ map-push numbersOf days d ∙ ap (λ (ns : List DayNumbers). ns ++ (numbersOf d ∷ [])) sofar ∙
-    ap (λ (x : DayNumbers). daysTo sort i ++ (x ∷ [])) (day-made-of n (numbersOf d) made ∙ is ∙ ap (dayOf sort) (add-one i)) ∙
-    ap (daysTo sort) (sym (add-one i))
+    ap (λ (x : DayNumbers). daysTo pattern i ++ (x ∷ [])) (day-made-of n (numbersOf d) made ∙ is ∙ ap (dayOf pattern) (add-one i)) ∙
+    ap (daysTo pattern) (sym (add-one i))

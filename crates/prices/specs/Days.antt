@@ -9,7 +9,7 @@ abbrev pub mixedDay : ℕ → ℕ → DayNumbers
 mixedDay base k = record {
   kind = k % 4;
   curtailed = cond (eqb (k % 5) 0) 1 0;
-  nomination = 900 + 10 * k;
+  nomination = 903 + 11 * k;
   receipts = base + 7 * k;
   reading = 940 + 13 * k - 90 * (k % 3);
   «after_notice» = cond (eqb (k % 5) 0) (40 + 5 * k) 0;
@@ -28,4 +28,17 @@ fullDay kind = record {
   «after_notice» = 0;
   «supply_cost» = 0;
   «variance_rate» = 2000000;
+}
+
+-- a day on which gas came and none was used
+abbrev pub idleDay : DayNumbers
+idleDay = record {
+  kind = 0;
+  curtailed = 0;
+  nomination = 0;
+  receipts = 200000;
+  reading = 0;
+  «after_notice» = 0;
+  «supply_cost» = 0;
+  «variance_rate» = 0;
 }

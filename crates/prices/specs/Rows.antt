@@ -8,22 +8,20 @@ use Rattle.std.specs.declared.result.Result.{Result}
 use Rattle.std.specs.declared.result.Result.the-variants.{Ok, Err}
 use Rattle.gas.specs.declared.items.Item.{Item}
 use Rattle.gas.specs.declared.items.ScheduleFault.{ScheduleFault}
-use Rattle.gas.specs.declared.items.ScheduleFault.the-variants.{PastLimit}
-use Rattle.gas.specs.Faults.{scheduleNumber}
-use Rattle.gas.specs.Items.{itemNumber, layerNumber}
+use Rattle.gas.specs.Faults.{scheduleValues}
+use Rattle.gas.specs.Items.{itemNumber}
 
 -- the case, the item and its amount
 abbrev pub amountText : ℕ → Item → ℤ → List ℕ
 amountText n item z = decimal n ++ (codes " " ++ (decimal (itemNumber item) ++ (codes " " ++ signed z)))
 
--- the month, the item and the layer of a fault, after its number
-abbrev pub faultText : ScheduleFault → List ℕ
-faultText (PastLimit month item layer) =
-    decimal 28 ++ (codes " " ++ (decimal month ++ (codes " " ++ (decimal (itemNumber item) ++ (codes " " ++ decimal (layerNumber layer))))))
+-- a fault's number, month, item and layer
+abbrev pub valuesText : ℕ × ℕ × ℕ × ℕ → List ℕ
+valuesText v = decimal (v .0) ++ (codes " " ++ (decimal (v .1) ++ (codes " " ++ (decimal (v .2) ++ (codes " " ++ decimal (v .3))))))
 
 -- the case, the item and the fault
 abbrev pub refusalText : ℕ → Item → ScheduleFault → List ℕ
-refusalText n item fault = decimal n ++ (codes " " ++ (decimal (itemNumber item) ++ (codes " refused " ++ faultText fault)))
+refusalText n item fault = decimal n ++ (codes " " ++ (decimal (itemNumber item) ++ (codes " refused " ++ valuesText (scheduleValues fault))))
 
 abbrev pub answerText : ℕ → Item → Result ℤ ScheduleFault → List ℕ
 answerText n item (Ok z) = amountText n item z

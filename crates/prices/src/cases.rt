@@ -1,5 +1,5 @@
 // The cases: months of days on schedules.
-use crate::days::Sort;
+use crate::days::Pattern;
 use crate::tables::table;
 use crate::terms::Terms;
 use crate::terms::large;
@@ -57,6 +57,18 @@ const DECEMBER: MonthNumbers = MonthNumbers {
     increase: 1_000,
     first: 0,
 };
+
+// A March, the last month of winter rates, and an April.
+const MARCH: MonthNumbers = MonthNumbers {
+    month: 4,
+    index: 28_000,
+    interruptible: 950,
+    firm: 1_150,
+    increase: 50,
+    first: 0,
+};
+
+const APRIL: MonthNumbers = MonthNumbers { month: 5, ..MARCH };
 
 // The classes on both pipelines.
 fn classes(
@@ -197,31 +209,125 @@ fn refusals(
     )
 }
 
+// The months at which Northern's rates change.
+fn seasons(text: &mut String, march: &Facts, april: &Facts) -> Result<(), fmt::Error> {
+    table(text, 22, &small(), march)?;
+    table(text, 23, &small(), april)
+}
+
+// Riders upon riders of their own kind, and a share of a sum below zero.
+fn stacks(
+    text: &mut String,
+    terms: Terms,
+    november: &Facts,
+    idle: &Facts,
+) -> Result<(), fmt::Error> {
+    let affordability = Affordability {
+        below: small(),
+        rate: terms.rate,
+    };
+    let interim = Interim { below: small() };
+    let weather = Weather {
+        below: small(),
+        year: terms.year,
+    };
+    table(
+        text,
+        24,
+        &Affordability {
+            below: affordability,
+            rate: terms.second_rate,
+        },
+        november,
+    )?;
+    table(text, 25, &Interim { below: interim }, november)?;
+    table(
+        text,
+        26,
+        &Weather {
+            below: weather,
+            year: terms.year,
+        },
+        november,
+    )?;
+    table(
+        text,
+        27,
+        &Franchise {
+            below: large(),
+            share: terms.share,
+        },
+        idle,
+    )
+}
+
+// The mixed November and May.
+fn mixed_months(text: &mut String, heap: Global, terms: Terms) -> Result<(), AnyError> {
+    let november = Pattern::Mixed { base: 1_000 }.days(heap, 30)?;
+    let may = Pattern::Mixed { base: 900 }.days(heap, 31)?;
+    let Ok(november) = Facts::new(NOVEMBER, november.as_slice()) else {
+        return Err("November is not lawful".into());
+    };
+    let Ok(may) = Facts::new(MAY, may.as_slice()) else {
+        return Err("May is not lawful".into());
+    };
+    classes(text, terms, &november, &may)?;
+    riders(text, terms, &november, &may)?;
+    Ok(())
+}
+
+// The full December, once critical and once normal.
+fn full_months(text: &mut String, heap: Global, terms: Terms) -> Result<(), AnyError> {
+    let critical = Pattern::Full { kind: 3 }.days(heap, 31)?;
+    let normal = Pattern::Full { kind: 0 }.days(heap, 31)?;
+    let Ok(critical) = Facts::new(DECEMBER, critical.as_slice()) else {
+        return Err("the critical December is not lawful".into());
+    };
+    let Ok(normal) = Facts::new(DECEMBER, normal.as_slice()) else {
+        return Err("the normal December is not lawful".into());
+    };
+    refusals(text, terms, &critical, &normal)?;
+    Ok(())
+}
+
+// March, and an April within the tolerance of a month.
+fn spring_months(text: &mut String, heap: Global) -> Result<(), AnyError> {
+    let march = Pattern::Mixed { base: 1_000 }.days(heap, 31)?;
+    let april = Pattern::Mixed { base: 930 }.days(heap, 30)?;
+    let Ok(march) = Facts::new(MARCH, march.as_slice()) else {
+        return Err("March is not lawful".into());
+    };
+    let Ok(april) = Facts::new(APRIL, april.as_slice()) else {
+        return Err("April is not lawful".into());
+    };
+    seasons(text, &march, &april)?;
+    Ok(())
+}
+
+// November once more, and an idle December.
+fn stacked_months(text: &mut String, heap: Global, terms: Terms) -> Result<(), AnyError> {
+    let november = Pattern::Mixed { base: 1_000 }.days(heap, 30)?;
+    let idle = Pattern::Idle.days(heap, 31)?;
+    let Ok(november) = Facts::new(NOVEMBER, november.as_slice()) else {
+        return Err("November is not lawful".into());
+    };
+    let Ok(idle) = Facts::new(DECEMBER, idle.as_slice()) else {
+        return Err("the idle December is not lawful".into());
+    };
+    stacks(text, terms, &november, &idle)?;
+    Ok(())
+}
+
 // Everything that the program prints.
 pub fn output(heap: Global) -> Result<String, AnyError> {
     let Some(terms) = Terms::new() else {
         return Err("the terms are not lawful".into());
     };
-    let autumn = Sort::Mixed { base: 1_000 }.days(heap, 30)?;
-    let spring = Sort::Mixed { base: 900 }.days(heap, 31)?;
-    let critical = Sort::Full { kind: 3 }.days(heap, 31)?;
-    let normal = Sort::Full { kind: 0 }.days(heap, 31)?;
-    let Ok(november) = Facts::new(NOVEMBER, autumn.as_slice()) else {
-        return Err("November is not lawful".into());
-    };
-    let Ok(may) = Facts::new(MAY, spring.as_slice()) else {
-        return Err("May is not lawful".into());
-    };
-    let Ok(critical) = Facts::new(DECEMBER, critical.as_slice()) else {
-        return Err("December is not lawful".into());
-    };
-    let Ok(normal) = Facts::new(DECEMBER, normal.as_slice()) else {
-        return Err("December is not lawful".into());
-    };
     let mut text = String::new(heap);
     writeln!(text, "case item millicents")?;
-    classes(&mut text, terms, &november, &may)?;
-    riders(&mut text, terms, &november, &may)?;
-    refusals(&mut text, terms, &critical, &normal)?;
+    mixed_months(&mut text, heap, terms)?;
+    full_months(&mut text, heap, terms)?;
+    spring_months(&mut text, heap)?;
+    stacked_months(&mut text, heap, terms)?;
     Ok(text)
 }

@@ -5,20 +5,22 @@ ghost use mathlib.Core.List.{map};
 ghost use Rattle.std.specs.Of.Vec.{vec-items};
 ghost use Rattle.std.specs.Vec.{made};
 ghost use Rattle.gas.specs.Day.{numbersOf};
-ghost use Rattle.prices.specs.Days.{fullDay, mixedDay};
-ghost use Rattle.prices.specs.Sorts.{dayOf, daysTo};
+ghost use Rattle.prices.specs.Days.{fullDay, idleDay, mixedDay};
+ghost use Rattle.prices.specs.Patterns.{dayOf, daysTo};
 use gas::DayNumbers;
 use gas::DayRecord;
 use std::alloc::Global;
 use std::error::AnyError;
 
-// What sort of days a month has.
+// What the days of a month are like.
 #[derive(Clone, Copy)]
-pub enum Sort {
+pub enum Pattern {
     // of every kind, each fifth curtailed, with receipts about a base
     Mixed { base: u16 },
     // full use with nothing nominated, all of one kind
     Full { kind: u8 },
+    // receipts and no use
+    Idle,
 }
 
 // A day like many others, by its number in the month.
@@ -31,7 +33,7 @@ fn mixed(base: u16, number: u8) -> DayNumbers
     DayNumbers {
         kind: number % 4,
         curtailed: if curtailed { 1 } else { 0 },
-        nomination: 900 + 10 * k,
+        nomination: 903 + 11 * k,
         receipts: base as u32 + 7 * k,
         reading: 940 + 13 * k - 90 * (k % 3),
         after_notice: if curtailed { 40 + 5 * k } else { 0 },
@@ -56,15 +58,32 @@ fn full(kind: u8) -> DayNumbers
     }
 }
 
-impl Sort {
+// A day on which gas came and none was used.
+fn idle() -> DayNumbers
+    ensures { λ r. ⌜ r ≡ idleDay ⌝ }
+{
+    DayNumbers {
+        kind: 0,
+        curtailed: 0,
+        nomination: 0,
+        receipts: 200_000,
+        reading: 0,
+        after_notice: 0,
+        supply_cost: 0,
+        variance_rate: 0,
+    }
+}
+
+impl Pattern {
     // The numbers of a day, by its number in the month.
     fn numbers(self, number: u8) -> DayNumbers
         requires { ⌜ number ≤ 31 ⌝ }
         ensures { λ r. ⌜ r ≡ dayOf self number ⌝ }
     {
         match self {
-            Sort::Mixed { base } => mixed(base, number),
-            Sort::Full { kind } => full(kind),
+            Pattern::Mixed { base } => mixed(base, number),
+            Pattern::Full { kind } => full(kind),
+            Pattern::Idle => idle(),
         }
     }
 

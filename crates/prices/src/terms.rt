@@ -21,6 +21,7 @@ pub struct Terms {
     pub share: PerMille,
     pub second_share: PerMille,
     pub rate: Rate,
+    pub second_rate: Rate,
     pub dear_rate: Rate,
     pub year: GasYear,
 }
@@ -39,10 +40,11 @@ impl Terms {
         };
         Some(Terms {
             tolerance: Tolerance::new(numbers).ok()?,
-            firm: FirmInterruptible::new(800).ok()?,
+            firm: FirmInterruptible::new(1_000).ok()?,
             share: PerMille::new(50).ok()?,
             second_share: PerMille::new(25).ok()?,
             rate: Rate::new(1_234).ok()?,
+            second_rate: Rate::new(777).ok()?,
             dear_rate: Rate::new(2_000_000).ok()?,
             year: GasYear::new(2021).ok()?,
         })
@@ -50,7 +52,9 @@ impl Terms {
 }
 
 // The class on which most riders are shown: small dual fuel on Northern.
-pub fn small() -> Class<SmallDualFuel, Northern> {
+pub fn small() -> Class<SmallDualFuel, Northern>
+    ensures { λ r. ⌜ r .terms .annual .count ≡ 36500 ⌝ }
+{
     Class {
         terms: SmallDualFuel {
             annual: Therms { count: 36_500 },

@@ -1,12 +1,19 @@
-// Spans of months, and the gas years that have weather rates.
+// Dates, spans of them, and the gas years that have weather rates.
 ghost use Prim.Native.Nat.{_≤_};
 use gas::Rate;
 
-// From one month to another, both included, at one rate. Months are counted through, twelve to a year, with January as 1.
+// A calendar month, 1 for January to 12.
+#[derive(Clone, Copy)]
+pub struct Date {
+    pub year: u16,
+    pub month: u8,
+}
+
+// From one month to another, both included, at one rate.
 #[derive(Clone, Copy)]
 pub struct Span {
-    pub first: u32,
-    pub last: u32,
+    pub first: Date,
+    pub last: Date,
     pub rate: Rate,
 }
 

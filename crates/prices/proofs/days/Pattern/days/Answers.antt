@@ -1,5 +1,5 @@
 use Rattle.prices.proofs.Months.{one-more}
-use Rattle.prices.proofs.days.Sort.days.Needs as need
+use Rattle.prices.proofs.days.Pattern.days.Needs as need
 
 pub loop-i-again : need.loop-i-again
 loop-i-again c =
