@@ -1,4 +1,4 @@
-// The riders, each of which stands on any schedule and is one.
+// Riders: surcharges that wrap a schedule of any make, and make another of it.
 mod affordability;
 mod charges;
 mod faults;
