@@ -1,4 +1,6 @@
 // The book of an account: the tables of its days, closings and lines, and what is worked out from them.
+#![tactic(auto)]
+
 mod closings;
 mod days;
 mod first;

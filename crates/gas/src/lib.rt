@@ -1,4 +1,6 @@
 // What a gas account is made of: therms, money and rates, the calendar, the lawful facts of days and months, and the interfaces of pipelines and rate schedules.
+#![tactic(auto)]
+
 mod amount;
 mod calendar;
 mod day;

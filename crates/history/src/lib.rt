@@ -1,4 +1,6 @@
 // What an account's lines have to add up to: the lines and refusals themselves, and, in the definitions, the year as known, the lines due, the outcome of every call and the law of all runs.
+#![tactic(auto)]
+
 mod faults;
 mod lines;
 

@@ -1,4 +1,6 @@
 // The journal of a gas account: its records, and the reading and writing of their bytes.
+#![tactic(auto)]
+
 mod bodies;
 mod faults;
 mod input;

@@ -1,4 +1,6 @@
 // Tests of the journal's reader and writer: damaged journals, tight buffers, and bytes put down by hand.
+#![tactic(auto)]
+
 #[cfg(test)]
 mod tests {
     use journal::*;

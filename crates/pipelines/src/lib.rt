@@ -1,4 +1,6 @@
 // The pipelines that carry the gas, and what they charge where a day or a month is out of balance.
+#![tactic(auto)]
+
 mod balancing;
 mod faults;
 mod northern;

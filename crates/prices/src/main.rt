@@ -1,4 +1,6 @@
 // Prints what a fixed set of months costs on every class, pipeline and rider.
+#![tactic(auto)]
+
 mod cases;
 mod days;
 mod rows;

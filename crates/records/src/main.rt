@@ -1,4 +1,6 @@
 // Lists a journal from standard input, a row for each record.
+#![tactic(auto)]
+
 mod listing;
 mod rows;
 

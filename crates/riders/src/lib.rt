@@ -1,4 +1,6 @@
 // Riders: surcharges that wrap a schedule of any make, and make another of it.
+#![tactic(auto)]
+
 mod affordability;
 mod charges;
 mod faults;

@@ -1,4 +1,6 @@
 // The rate classes, each of which is a schedule over any pipeline.
+#![tactic(auto)]
+
 mod class;
 mod classes;
 mod faults;

@@ -1,4 +1,6 @@
 // Tests of prices: refusals in their order, the worked edges on the code, and rounding at its limits.
+#![tactic(auto)]
+
 #[cfg(test)]
 mod days {
     use gas::{DayNumbers, DayRecord};
