@@ -1,6 +1,6 @@
 // The gas year's first unauthorized day.
 ghost use Rattle.std.specs.Prelude.{◌≡◌, ◌≤◌, length};
-ghost use Rattle.history.specs.Days.{day_of_first, place_of_first, is_authorized};
+ghost use Rattle.history.specs.Days.{day_of_first, place_of_first, keeps_authority};
 
 use gas::{DayRecord, Month, Schedule};
 
@@ -8,7 +8,7 @@ const A_MONTH: usize = 31;
 
 // Whether nothing unauthorized stands at a place.
 fn is_authorized<S: Schedule>(schedule: &S, place: &Option<DayRecord>) -> bool
-    ensures { result ≡ is_authorized (unauthorized schedule.now) place.now }
+    ensures { result ≡ keeps_authority (S.unauthorized schedule.now) place.now }
 {
     match place {
         Some(day) => schedule.unauthorized(day).count == 0,
@@ -18,7 +18,7 @@ fn is_authorized<S: Schedule>(schedule: &S, place: &Option<DayRecord>) -> bool
 
 // The place of the first unauthorized day by date, or how many places there are.
 pub fn first_place<S: Schedule>(schedule: &S, places: &[Option<DayRecord>]) -> usize
-    ensures { result ≡ place_of_first (unauthorized schedule.now) places.now }
+    ensures { result ≡ place_of_first (S.unauthorized schedule.now) places.now }
 {
     for (i, place) in places.iter().enumerate() {
         if !is_authorized(schedule, place) {

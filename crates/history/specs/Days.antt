@@ -40,13 +40,13 @@ abbrev pub net_therms : List DayRecord → ℤ
 net_therms days = pos (sum_by received days) -ℤ pos (sum_by metered days)
 
 -- nothing unauthorized stands at a place, by a schedule's unauthorized therms of a day
-abbrev pub is_authorized : (DayRecord → ℕ) → Option DayRecord → Bool
-is_authorized unauthorized None = true
-is_authorized unauthorized (Some day) = unauthorized day == 0
+abbrev pub keeps_authority : (DayRecord → ℕ) → Option DayRecord → Bool
+keeps_authority unauthorized None = true
+keeps_authority unauthorized (Some day) = unauthorized day == 0
 
 -- the place of the gas year's first unauthorized day by date, or how many places there are if no posted day is one
 abbrev pub place_of_first : (DayRecord → ℕ) → Places → ℕ
-place_of_first unauthorized days = prefix_len (is_authorized unauthorized) days
+place_of_first unauthorized days = prefix_len (keeps_authority unauthorized) days
 
 -- the number of the day at a place in a month, or 0 if it is no day of that month
 abbrev pub day_of_first : Bool → ℕ → ℕ → ℕ

@@ -42,7 +42,7 @@ fn rows<S: Schedule>(
     facts: &Facts,
     items: &[Item],
 ) -> Result<(), fmt::Error>
-    ensures { is_ok result ≡ true → string_bytes text.new ≡ string_bytes text.old ++ table_text case (price schedule.now (facts_of facts.now)) items.now }
+    ensures { is_ok result ≡ true → string_bytes text.new ≡ string_bytes text.old ++ table_text case (S.price schedule.now (facts_of facts.now)) items.now }
 {
     for item in items {
         row(text, case, *item, schedule.price(facts, *item))?;
@@ -57,7 +57,7 @@ pub fn table<S: Schedule>(
     schedule: &S,
     facts: &Facts,
 ) -> Result<(), fmt::Error>
-    ensures { is_ok result ≡ true → string_bytes text.new ≡ string_bytes text.old ++ table_text case (price schedule.now (facts_of facts.now)) all_items }
+    ensures { is_ok result ≡ true → string_bytes text.new ≡ string_bytes text.old ++ table_text case (S.price schedule.now (facts_of facts.now)) all_items }
 {
     rows(text, case, schedule, facts, &Item::ALL)
 }

@@ -12,7 +12,7 @@ loop-placed-preserved c =
     let here = ap (λ b. answer b i) inv.0 in
     let read : answer bs i ≡ Ok (Some c.in-Ok-Some.placed) = cc in
     let moves = c.next.ensures.moves ∙ ap (λ b. after b i) inv.0 in
-    (ap (λ x. x.now) c.next.ensures.same ∙ inv.0, one_more bs _ i _ inv.1 _ _ _ read c.in_ok-writeln.ensures.bytes moves)
+    (ap (λ x. x.now) c.next.ensures.same ∙ inv.0, one_more bs _ i _ inv.1 _ _ _ read c.in_ok-writeln-in-Ok-Some.ensures.bytes moves)
 
 pub returns-in-Ok-None : goal.returns-in-Ok-None
 returns-in-Ok-None c =
@@ -32,4 +32,4 @@ returns-in-Err c =
     let told = c.in-Err.ensures.answers in
     let here = ap (λ b. answer b i) inv.0 in
     let read : answer bs i ≡ Err c.in-Err.fault = cc in
-    refused bs _ i _ inv.1 _ _ read c.in_ok-writeln-2.ensures.bytes
+    refused bs _ i _ inv.1 _ _ read c.in_ok-writeln-in-Err.ensures.bytes
