@@ -25,13 +25,14 @@ fn row(
                 item,
                 millicents: amount.millicents,
             };
-            writeln!(text, "{row}")
+            writeln!(text, "{row}")?;
         }
         Err(fault) => {
             let refusal = Refusal { case, item, fault };
-            writeln!(text, "{refusal}")
+            writeln!(text, "{refusal}")?;
         }
     }
+    Ok(())
 }
 
 // A row for each of some items.
