@@ -1,5 +1,5 @@
 -- What the methods of the day table leave.
-use Rattle.std.specs.Prelude.{◌≡◌, ℕ, Some, None, Option, slice_set}
+use Rattle.std.specs.Prelude.{ℕ, Some, None, Option, slice_set}
 use Rattle.gas.specs.declared.day.DayRecord.{DayRecord}
 use Rattle.history.specs.Days.{Places}
 

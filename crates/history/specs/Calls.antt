@@ -1,5 +1,5 @@
 -- The six calls of an account, and the one outcome of each.
-use Rattle.std.specs.Prelude.{ℕ, ◌+◌, Bool, true, false, cond, not, ◌&&◌, List, [], ◌∷◌, ◌++◌, length, pos, neg_ℤ, is_some, Some, None, Ok, Err, Option, Result, ◌==◌, nat_le, nat_lt, slice_index_or, slice_set}
+use Rattle.std.specs.Prelude.{ℕ, ◌+◌, Bool, cond, not, ◌&&◌, List, [], ◌∷◌, ◌++◌, length, pos, neg_ℤ, is_some, Some, None, Ok, Err, Option, Result, ◌==◌, nat_le, nat_lt, slice_index_or, slice_set}
 use Rattle.gas.specs.declared.day.DayNumbers.{DayNumbers}
 use Rattle.gas.specs.declared.day.DayRecord.{DayRecord}
 use Rattle.gas.specs.declared.faults.InputFault.{InputFault}
@@ -16,7 +16,7 @@ use Rattle.history.specs.Days.{Places, day_of, is_complete, place_of}
 use Rattle.history.specs.Due.{due_in}
 use Rattle.history.specs.Headings.{line_of}
 use Rattle.history.specs.Prices.{Tariff}
-use Rattle.history.specs.Year.{Opening, Settlement, Standing, Year, is_opened, is_settled, not_opened, opening_of, running, settled}
+use Rattle.history.specs.Year.{Settlement, Standing, Year, is_opened, is_settled, not_opened, opening_of, running, settled}
 
 -- a call with its numbers as they came, lawful or not
 pub data Call : Type 0 where

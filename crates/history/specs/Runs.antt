@@ -2,7 +2,7 @@
 -- Words:
 -- a history, the calls so far with their answers, the newest first
 -- a run, what a new account has become by a history
-use Rattle.std.specs.Prelude.{◌≡◌, ℕ, ◌<◌, Bool, true, cond, List, [], ◌∷◌, length, ℤ, pos, ◌+ℤ◌, Some, None, Ok, Err, Option, Result, ◌==◌}
+use Rattle.std.specs.Prelude.{◌≡◌, ℕ, ◌<◌, cond, List, [], ◌∷◌, length, ℤ, pos, ◌+ℤ◌, Some, None, Ok, Err, Option, Result, ◌==◌}
 use Rattle.std.specs.Int.{int_min}
 use Rattle.gas.specs.declared.items.Item.{Item}
 use Rattle.gas.specs.declared.items.Item.TheVariants.{MonthlyBalancing}
@@ -14,7 +14,7 @@ use Rattle.history.specs.Calls.{Call, State, learned, outcome}
 use Rattle.history.specs.Headings.{heading_item, heading_month, money_on, sum_under, therms_on}
 use Rattle.history.specs.Prices.{Tariff, all_therms, final_price, interim_price, open_therms, price_of}
 use Rattle.history.specs.Sums.{sum_z}
-use Rattle.history.specs.Year.{Opening, Settlement, Year, is_interim, opening_of, settled, unknown_year}
+use Rattle.history.specs.Year.{Opening, Settlement, Year, is_interim, settled, unknown_year}
 
 -- a call and its answer: none if it was accepted, else the refusal
 pub record Entry : Type 0 where

@@ -1,5 +1,5 @@
 -- The days of a month, made one after another.
-use Rattle.std.proofs.Common.{◌≡◌, ℕ, suc, ◌+◌, List, [], ◌∷◌, ◌++◌, map, Ok, sym, ap, ◌∙◌, add-one}
+use Rattle.std.proofs.Common.{◌≡◌, ℕ, ◌+◌, List, [], ◌∷◌, ◌++◌, map, Ok, sym, ap, ◌∙◌, add-one}
 use Rattle.std.proofs.lemmas.List.{map_push}
 use Rattle.gas.specs.declared.day.DayNumbers.{DayNumbers}
 use Rattle.gas.specs.declared.day.DayRecord.{DayRecord}

@@ -1,4 +1,4 @@
-use Rattle.std.proofs.Common.{refl, arith}
+use Rattle.std.proofs.Common.{arith}
 use Rattle.book.proofs.Posted.{gathers, passes, gathered}
 use Rattle.book.proofs.days.posted.Goals as goal
 use Rattle.book.proofs.days.posted.Goals.{in-Some, in_default}
