@@ -67,9 +67,9 @@ interim_lines o lines = sum_z (λ l. cond (is_interim o (heading_month l.heading
 -- months: in each closed month each item's lines add up to its price in the year as known
 -- therms: those on monthly balancing lines and the open ones are receipts less readings of all posted days
 -- settlement: once settled, the interim months' lines and the refund lines are the lesser of the interim and the final price
-pub record AddsUp (s : Tariff) (y : Year) (lines : List Line) (open-therms : ℤ) : Type 0 where
+pub record AddsUp (s : Tariff) (y : Year) (lines : List Line) (still_open : ℤ) : Type 0 where
   pub months : (month : ℕ) (item : Item) → month < length y.closings → price_of s y month item ≡ Ok (sum_under money_on (Priced month item) lines)
-  pub therms : balanced_therms lines +ℤ open-therms ≡ all_therms y
+  pub therms : balanced_therms lines +ℤ still_open ≡ all_therms y
   pub settlement : (o : Opening) (t : Settlement) → y.standing ≡ settled o t → interim_lines o lines +ℤ sum_under money_on Refund lines ≡ int_min (interim_price s y) (final_price s t y)
 
 -- the law of all runs: for every tariff, history and account
