@@ -17,16 +17,21 @@ pub struct Month {
     ghost within: { number ≤ 11 },
 }
 
-impl Month {
-    pub fn new(number: u8) -> Result<Month, InputFault>
-        ensures { read (λ m. m.number) result ≡ checked_month number }
-    {
+// Refused above 11.
+impl TryFrom<u8> for Month {
+    type Error = InputFault;
+
+    ghost try_from_gives = { λ number made. read (λ m. m.number) made ≡ checked_month number };
+
+    fn try_from(number: u8) -> Result<Month, InputFault> {
         if number > LAST_MONTH {
             return Err(InputFault::Month);
         }
         Ok(Month { number })
     }
+}
 
+impl Month {
     // How many days the month has, in a leap year or another.
     pub fn length(self, leap: bool) -> u8
         ensures { result ≡ month_length leap self.number }

@@ -5,27 +5,19 @@ ghost use Rattle.gas.specs.Faults.{input_number};
 // What is wrong with numbers from outside.
 #[derive(Clone, Copy, Debug, PartialEq, Eq)]
 pub enum InputFault {
-    Month,
-    Day,
-    DayKind,
-    Mark,
-    Quantity,
-    PerMille,
-    DayCount,
+    Month = 3,
+    Day = 4,
+    DayKind = 5,
+    Mark = 6,
+    Quantity = 7,
+    PerMille = 8,
+    DayCount = 25,
 }
 
 impl InputFault {
     pub fn number(self) -> u8
         ensures { result ≡ input_number self }
     {
-        match self {
-            InputFault::Month => 3,
-            InputFault::Day => 4,
-            InputFault::DayKind => 5,
-            InputFault::Mark => 6,
-            InputFault::Quantity => 7,
-            InputFault::PerMille => 8,
-            InputFault::DayCount => 25,
-        }
+        self as u8
     }
 }

@@ -58,8 +58,8 @@ impl DayRecord {
             receipts: quantity(numbers.receipts, MOST_A_DAY)?,
             reading,
             after_notice: quantity(numbers.after_notice, reading.count)?,
-            supply_cost: Rate::new(numbers.supply_cost)?,
-            variance_rate: Rate::new(numbers.variance_rate)?,
+            supply_cost: Rate::try_from(numbers.supply_cost)?,
+            variance_rate: Rate::try_from(numbers.variance_rate)?,
         })
     }
 }

@@ -15,9 +15,9 @@ impl Closing {
         ensures { read closing_numbers result ≡ checked_closing index interruptible firm }
     {
         Ok(Closing {
-            index: Rate::new(index)?,
-            interruptible: Rate::new(interruptible)?,
-            firm: Rate::new(firm)?,
+            index: Rate::try_from(index)?,
+            interruptible: Rate::try_from(interruptible)?,
+            firm: Rate::try_from(firm)?,
         })
     }
 }
