@@ -14,16 +14,16 @@ taken false e a h = absurd (let z : ◌≡◌ {A = ℕ} 0 1 = cc in omega arith)
 pub record Lawful (t : TotalsNumbers) : Type 0 where
   pub received : t.receipts ≤ 6200000
   pub metered : t.readings ≤ 6200000
-  pub indexed : t.index ≤ 2000000
-  pub interrupted : t.interruptible ≤ 2000000
-  pub held : t.firm ≤ 2000000
+  pub indexed : t.closing.index ≤ 2000000
+  pub interrupted : t.closing.interruptible ≤ 2000000
+  pub held : t.closing.firm ≤ 2000000
 
 pub lawful : (t : TotalsNumbers) → checked_totals t ≡ Ok t → Lawful t
 lawful t h =
     let one = and_parts (leb t.receipts 6200000) _ (taken _ _ _ h) in
     let two = and_parts (leb t.readings 6200000) _ one.1 in
-    let three = and_parts (leb t.index 2000000) _ two.1 in
-    let four = and_parts (leb t.interruptible 2000000) _ three.1 in
+    let three = and_parts (leb t.closing.index 2000000) _ two.1 in
+    let four = and_parts (leb t.closing.interruptible 2000000) _ three.1 in
     record {
       received = leb-true _ _ one.0;
       metered = leb-true _ _ two.0;

@@ -3,6 +3,7 @@ use Rattle.std.specs.Prelude.{ℕ, Bool, cond, ◌&&◌, Ok, Err, Result, nat_le
 use Rattle.gas.specs.declared.day.DayNumbers.{DayNumbers}
 use Rattle.gas.specs.declared.faults.InputFault.{InputFault}
 use Rattle.gas.specs.declared.faults.InputFault.TheVariants.{Month, DayKind, Mark, Quantity, PerMille}
+use Rattle.gas.specs.declared.month.ClosingNumbers.{ClosingNumbers}
 use Rattle.gas.specs.declared.month.TotalsNumbers.{TotalsNumbers}
 
 -- an answer by what was read of its value; a refusal stays as it is
@@ -68,13 +69,13 @@ checked_day d =
     cond (nat_le d.kind 3) (cond (nat_le d.curtailed 1) (unless (lawful_day d) Quantity d) (Err Mark)) (Err DayKind)
 
 -- the three numbers that close a month are rates
-abbrev pub closes : ℕ → ℕ → ℕ → Bool
-closes index interruptible firm = nat_le index most_per_therm && (nat_le interruptible most_per_therm && nat_le firm most_per_therm)
+abbrev pub closes : ClosingNumbers → Bool
+closes c = nat_le c.index most_per_therm && (nat_le c.interruptible most_per_therm && nat_le c.firm most_per_therm)
 
-abbrev pub checked_closing : ℕ → ℕ → ℕ → Result (ℕ × ℕ × ℕ) InputFault
-checked_closing index interruptible firm = unless (closes index interruptible firm) Quantity (index, interruptible, firm)
+abbrev pub checked_closing : ClosingNumbers → Result ClosingNumbers InputFault
+checked_closing c = unless (closes c) Quantity c
 
 -- a month's receipts and readings have their most
 abbrev pub checked_totals : TotalsNumbers → Result TotalsNumbers InputFault
 checked_totals t =
-    unless (nat_le t.receipts most_a_month && (nat_le t.readings most_a_month && closes t.index t.interruptible t.firm)) Quantity t
+    unless (nat_le t.receipts most_a_month && (nat_le t.readings most_a_month && closes t.closing)) Quantity t

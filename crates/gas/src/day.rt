@@ -6,7 +6,7 @@ mod ops;
 use crate::units::{Rate, Therms};
 
 // Most days are normal. On others the pipeline restricts how far use may fall short of the nomination (SUL, system under-run limitation), or how far it may exceed it (SOL, system over-run limitation), or it declares the day critical.
-#[derive(Clone, Copy)]
+#[derive(Clone, Copy, Debug, PartialEq, Eq)]
 pub enum DayKind {
     Normal,
     Sul,
@@ -15,7 +15,7 @@ pub enum DayKind {
 }
 
 // The eight numbers of a day, lawful or not: quantities in therms, the cost and the rate in millicents per therm.
-#[derive(Clone, Copy)]
+#[derive(Clone, Copy, Debug, PartialEq, Eq)]
 pub struct DayNumbers {
     pub kind: u8,
     pub curtailed: u8,

@@ -18,7 +18,7 @@ pub use day::{DayKind, DayNumbers, DayRecord};
 pub use facts::{Facts, MonthNumbers};
 pub use faults::InputFault;
 pub use items::{Item, Layer, ScheduleFault};
-pub use month::{Closing, Totals, TotalsNumbers};
+pub use month::{Closing, ClosingNumbers, Totals, TotalsNumbers};
 pub use pipeline::Pipeline;
 pub use schedule::Schedule;
 pub use units::{Millicents, PerMille, Rate, Therms};

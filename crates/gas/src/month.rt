@@ -5,7 +5,15 @@ mod ops;
 
 use crate::units::{Rate, Therms};
 
-// What closes a month: the price index, and the interruptible and the firm transport rate.
+// The three numbers that close a month, lawful or not: the price index, and the interruptible and the firm transport rate.
+#[derive(Clone, Copy, Debug, PartialEq, Eq)]
+pub struct ClosingNumbers {
+    pub index: u32,
+    pub interruptible: u32,
+    pub firm: u32,
+}
+
+// What closes a month.
 #[derive(Clone, Copy)]
 pub struct Closing {
     pub index: Rate,
@@ -13,14 +21,12 @@ pub struct Closing {
     pub firm: Rate,
 }
 
-// A month's five numbers, lawful or not: its receipts and readings in therms, and what closes it.
-#[derive(Clone, Copy)]
+// A month's numbers, lawful or not: its receipts and readings in therms, and what closes it.
+#[derive(Clone, Copy, Debug, PartialEq, Eq)]
 pub struct TotalsNumbers {
     pub receipts: u32,
     pub readings: u32,
-    pub index: u32,
-    pub interruptible: u32,
-    pub firm: u32,
+    pub closing: ClosingNumbers,
 }
 
 // A month's receipts and readings, added up over its days, and what closes it.

@@ -9,10 +9,13 @@ use crate::units::{Rate, Therms};
 
 const MOST_A_DAY: u32 = 200_000;
 
-impl DayKind {
-    fn new(kind: u8) -> Result<DayKind, InputFault>
-        ensures { read kind_number result ≡ checked_kind kind }
-    {
+// Refused above 3.
+impl TryFrom<u8> for DayKind {
+    type Error = InputFault;
+
+    ghost try_from_gives = { λ kind made. read kind_number made ≡ checked_kind kind };
+
+    fn try_from(kind: u8) -> Result<DayKind, InputFault> {
         match kind {
             0 => Ok(DayKind::Normal),
             1 => Ok(DayKind::Sul),
@@ -43,12 +46,14 @@ fn quantity(count: u32, most: u32) -> Result<Therms, InputFault>
     Ok(Therms { count })
 }
 
-impl DayRecord {
-    // Refused are first a day kind above 3, then a mark above 1, then numbers outside their limits.
-    pub fn new(numbers: DayNumbers) -> Result<DayRecord, InputFault>
-        ensures { read numbers_of result ≡ checked_day numbers }
-    {
-        let kind = DayKind::new(numbers.kind)?;
+// Refused are first a day kind above 3, then a mark above 1, then numbers outside their limits.
+impl TryFrom<DayNumbers> for DayRecord {
+    type Error = InputFault;
+
+    ghost try_from_gives = { λ numbers made. read numbers_of made ≡ checked_day numbers };
+
+    fn try_from(numbers: DayNumbers) -> Result<DayRecord, InputFault> {
+        let kind = DayKind::try_from(numbers.kind)?;
         let curtailed = mark(numbers.curtailed)?;
         let reading = quantity(numbers.reading, MOST_A_DAY)?;
         Ok(DayRecord {

@@ -3,30 +3,34 @@ ghost use Rattle.std.specs.Prelude.{◌≡◌};
 ghost use Rattle.gas.specs.Inputs.{checked_closing, checked_totals, read};
 ghost use Rattle.gas.specs.Month.{closing_numbers, totals_numbers};
 
-use super::{Closing, Totals, TotalsNumbers};
+use super::{Closing, ClosingNumbers, Totals, TotalsNumbers};
 use crate::faults::InputFault;
 use crate::units::{Rate, Therms};
 
 const MOST_A_MONTH: u32 = 6_200_000;
 
-impl Closing {
-    // Refused where a rate is above 2,000,000.
-    pub fn new(index: u32, interruptible: u32, firm: u32) -> Result<Closing, InputFault>
-        ensures { read closing_numbers result ≡ checked_closing index interruptible firm }
-    {
+// Refused where a rate is above 2,000,000.
+impl TryFrom<ClosingNumbers> for Closing {
+    type Error = InputFault;
+
+    ghost try_from_gives = { λ numbers made. read closing_numbers made ≡ checked_closing numbers };
+
+    fn try_from(numbers: ClosingNumbers) -> Result<Closing, InputFault> {
         Ok(Closing {
-            index: Rate::try_from(index)?,
-            interruptible: Rate::try_from(interruptible)?,
-            firm: Rate::try_from(firm)?,
+            index: Rate::try_from(numbers.index)?,
+            interruptible: Rate::try_from(numbers.interruptible)?,
+            firm: Rate::try_from(numbers.firm)?,
         })
     }
 }
 
-impl Totals {
-    // Refused where a total is above 6,200,000 or a rate above 2,000,000.
-    pub fn new(numbers: TotalsNumbers) -> Result<Totals, InputFault>
-        ensures { read totals_numbers result ≡ checked_totals numbers }
-    {
+// Refused where a total is above 6,200,000 or a rate above 2,000,000.
+impl TryFrom<TotalsNumbers> for Totals {
+    type Error = InputFault;
+
+    ghost try_from_gives = { λ numbers made. read totals_numbers made ≡ checked_totals numbers };
+
+    fn try_from(numbers: TotalsNumbers) -> Result<Totals, InputFault> {
         if numbers.receipts > MOST_A_MONTH || numbers.readings > MOST_A_MONTH {
             return Err(InputFault::Quantity);
         }
@@ -37,7 +41,7 @@ impl Totals {
             readings: Therms {
                 count: numbers.readings,
             },
-            closing: Closing::new(numbers.index, numbers.interruptible, numbers.firm)?,
+            closing: Closing::try_from(numbers.closing)?,
         })
     }
 }
