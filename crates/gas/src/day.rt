@@ -6,8 +6,9 @@ mod ops;
 use crate::units::{Rate, Therms};
 
 // Most days are normal. On others the pipeline restricts how far use may fall short of the nomination (SUL, system under-run limitation), or how far it may exceed it (SOL, system over-run limitation), or it declares the day critical.
-#[derive(Clone, Copy, Debug, PartialEq, Eq)]
+#[derive(Clone, Copy, Debug, Default, PartialEq, Eq)]
 pub enum DayKind {
+    #[default]
     Normal,
     Sul,
     Sol,

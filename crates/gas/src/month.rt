@@ -14,7 +14,7 @@ pub struct ClosingNumbers {
 }
 
 // What closes a month.
-#[derive(Clone, Copy)]
+#[derive(Clone, Copy, Default)]
 pub struct Closing {
     pub index: Rate,
     pub interruptible: Rate,

@@ -46,6 +46,24 @@ fn quantity(count: u32, most: u32) -> Result<Therms, InputFault>
     Ok(Therms { count })
 }
 
+// A normal day on which nothing flowed, at no price.
+impl Default for DayRecord {
+    ghost is_default = { λ day. numbers_of day ≡ record { kind = 0; curtailed = 0; nomination = 0; receipts = 0; reading = 0; after_notice = 0; supply_cost = 0; variance_rate = 0 } };
+
+    fn default() -> DayRecord {
+        DayRecord {
+            kind: DayKind::default(),
+            curtailed: false,
+            nomination: Therms::default(),
+            receipts: Therms::default(),
+            reading: Therms::default(),
+            after_notice: Therms::default(),
+            supply_cost: Rate::default(),
+            variance_rate: Rate::default(),
+        }
+    }
+}
+
 // Refused are first a day kind above 3, then a mark above 1, then numbers outside their limits.
 impl TryFrom<DayNumbers> for DayRecord {
     type Error = InputFault;
