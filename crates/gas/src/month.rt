@@ -1,9 +1,11 @@
 // The numbers of a month: those that close it, and its totals.
-ghost use Rattle.std.specs.Prelude.{◌≤◌};
+ghost use Rattle.std.specs.Prelude.{◌≡◌, ◌≤◌};
+ghost use Rattle.gas.specs.Inputs.{checked_closing, checked_totals, read};
 
-mod ops;
-
+use crate::faults::InputFault;
 use crate::units::{Rate, Therms};
+
+const MOST_A_MONTH: u32 = 6_200_000;
 
 // The three numbers that close a month, lawful or not: the price index, and the interruptible and the firm transport rate.
 #[derive(Clone, Copy, Debug, PartialEq, Eq)]
@@ -37,4 +39,45 @@ pub struct Totals {
     pub closing: Closing,
     ghost received: { receipts.count ≤ 6200000 },
     ghost metered: { readings.count ≤ 6200000 },
+}
+
+// Refused where a rate is above 2,000,000.
+impl TryFrom<ClosingNumbers> for Closing {
+    ghost use Rattle.gas.specs.Month.{closing_numbers};
+
+    type Error = InputFault;
+
+    ghost try_from_gives = { λ numbers made. read closing_numbers made ≡ checked_closing numbers };
+
+    fn try_from(numbers: ClosingNumbers) -> Result<Closing, InputFault> {
+        Ok(Closing {
+            index: Rate::try_from(numbers.index)?,
+            interruptible: Rate::try_from(numbers.interruptible)?,
+            firm: Rate::try_from(numbers.firm)?,
+        })
+    }
+}
+
+// Refused where a total is above 6,200,000 or a rate above 2,000,000.
+impl TryFrom<TotalsNumbers> for Totals {
+    ghost use Rattle.gas.specs.Month.{totals_numbers};
+
+    type Error = InputFault;
+
+    ghost try_from_gives = { λ numbers made. read totals_numbers made ≡ checked_totals numbers };
+
+    fn try_from(numbers: TotalsNumbers) -> Result<Totals, InputFault> {
+        if numbers.receipts > MOST_A_MONTH || numbers.readings > MOST_A_MONTH {
+            return Err(InputFault::Quantity);
+        }
+        Ok(Totals {
+            receipts: Therms {
+                count: numbers.receipts,
+            },
+            readings: Therms {
+                count: numbers.readings,
+            },
+            closing: Closing::try_from(numbers.closing)?,
+        })
+    }
 }
