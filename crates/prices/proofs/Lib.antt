@@ -1,2 +1,1 @@
 pub mod Months
-pub mod Turns

@@ -1,11 +1,14 @@
 // The cases: months of days on schedules.
 use crate::days::Pattern;
 use crate::tables::table;
-use crate::terms::{Terms, large, small};
+use crate::terms::{
+    AFFORDABILITY, DEAR_AFFORDABILITY, FIRM, FRANCHISE, SECOND_AFFORDABILITY, SECOND_FRANCHISE,
+    TOLERANCE, WEATHER, large, small,
+};
 use anyhow::anyhow;
-use gas::{Facts, MonthNumbers, Therms};
+use gas::{ClosingNumbers, DayKind, Facts, MonthNumbers, Therms};
 use pipelines::Northern;
-use riders::{Affordability, Franchise, Interim, Weather};
+use riders::{Interim, Rider};
 use std::alloc::Global;
 use std::fmt;
 use tariff::{Class, SmallDualFuel};
@@ -13,9 +16,11 @@ use tariff::{Class, SmallDualFuel};
 // A November with an increase in force, in which the fifth is the gas year's first unauthorized day.
 const NOVEMBER: MonthNumbers = MonthNumbers {
     month: 0,
-    index: 30_001,
-    interruptible: 1_000,
-    firm: 1_200,
+    closing: ClosingNumbers {
+        index: 30_001,
+        interruptible: 1_000,
+        firm: 1_200,
+    },
     increase: 137,
     first: 5,
 };
@@ -23,9 +28,11 @@ const NOVEMBER: MonthNumbers = MonthNumbers {
 // A May behind which the first unauthorized day lies, without an increase.
 const MAY: MonthNumbers = MonthNumbers {
     month: 6,
-    index: 25_003,
-    interruptible: 900,
-    firm: 1_100,
+    closing: ClosingNumbers {
+        index: 25_003,
+        interruptible: 900,
+        firm: 1_100,
+    },
     increase: 0,
     first: 0,
 };
@@ -33,9 +40,11 @@ const MAY: MonthNumbers = MonthNumbers {
 // A December with an increase in force.
 const DECEMBER: MonthNumbers = MonthNumbers {
     month: 1,
-    index: 30_000,
-    interruptible: 1_000,
-    firm: 1_000,
+    closing: ClosingNumbers {
+        index: 30_000,
+        interruptible: 1_000,
+        firm: 1_000,
+    },
     increase: 1_000,
     first: 0,
 };
@@ -43,9 +52,11 @@ const DECEMBER: MonthNumbers = MonthNumbers {
 // A March, the last month of winter rates, and an April.
 const MARCH: MonthNumbers = MonthNumbers {
     month: 4,
-    index: 28_000,
-    interruptible: 950,
-    firm: 1_150,
+    closing: ClosingNumbers {
+        index: 28_000,
+        interruptible: 950,
+        firm: 1_150,
+    },
     increase: 50,
     first: 0,
 };
@@ -53,17 +64,12 @@ const MARCH: MonthNumbers = MonthNumbers {
 const APRIL: MonthNumbers = MonthNumbers { month: 5, ..MARCH };
 
 // The classes on both pipelines.
-fn classes(
-    text: &mut String,
-    terms: Terms,
-    november: &Facts,
-    may: &Facts,
-) -> Result<(), fmt::Error> {
+fn classes(text: &mut String, november: &Facts, may: &Facts) -> Result<(), fmt::Error> {
     let upper = SmallDualFuel {
         annual: Therms { count: 120_000 },
     };
     let firm = Class {
-        terms: terms.firm,
+        terms: FIRM,
         pipeline: Northern,
     };
     table(text, 1, &small(), november)?;
@@ -86,7 +92,7 @@ fn classes(
         8,
         &Class {
             terms: upper,
-            pipeline: terms.tolerance,
+            pipeline: TOLERANCE,
         },
         november,
     )?;
@@ -94,101 +100,37 @@ fn classes(
         text,
         9,
         &Class {
-            terms: terms.firm,
-            pipeline: terms.tolerance,
+            terms: FIRM,
+            pipeline: TOLERANCE,
         },
         may,
     )
 }
 
 // Each rider alone, and riders upon riders.
-fn riders(
-    text: &mut String,
-    terms: Terms,
-    november: &Facts,
-    may: &Facts,
-) -> Result<(), fmt::Error> {
-    let interim = Interim { below: small() };
-    let franchise = Franchise {
-        below: small(),
-        share: terms.share,
-    };
-    let affordability = Affordability {
-        below: small(),
-        rate: terms.rate,
-    };
-    let weather = Weather {
-        below: small(),
-        year: terms.year,
-    };
-    let all_but_franchise = Interim {
-        below: Weather {
-            below: affordability,
-            year: terms.year,
-        },
-    };
+fn riders(text: &mut String, november: &Facts, may: &Facts) -> Result<(), fmt::Error> {
+    let interim = Interim.on(small());
+    let franchise = FRANCHISE.on(small());
+    let affordability = AFFORDABILITY.on(small());
+    let weather = WEATHER.on(small());
+    let all_but_franchise = Interim.on(WEATHER.on(affordability));
     table(text, 10, &interim, november)?;
     table(text, 11, &franchise, november)?;
     table(text, 12, &affordability, november)?;
     table(text, 13, &weather, november)?;
     table(text, 14, &weather, may)?;
-    table(
-        text,
-        15,
-        &Franchise {
-            below: interim,
-            share: terms.share,
-        },
-        november,
-    )?;
-    table(text, 16, &Interim { below: franchise }, november)?;
-    table(
-        text,
-        17,
-        &Franchise {
-            below: franchise,
-            share: terms.second_share,
-        },
-        november,
-    )?;
-    table(
-        text,
-        18,
-        &Franchise {
-            below: all_but_franchise,
-            share: terms.share,
-        },
-        november,
-    )
+    table(text, 15, &FRANCHISE.on(interim), november)?;
+    table(text, 16, &Interim.on(franchise), november)?;
+    table(text, 17, &SECOND_FRANCHISE.on(franchise), november)?;
+    table(text, 18, &FRANCHISE.on(all_but_franchise), november)
 }
 
 // Amounts past their limit: at the class, at a rider, and at both.
-fn refusals(
-    text: &mut String,
-    terms: Terms,
-    critical: &Facts,
-    normal: &Facts,
-) -> Result<(), fmt::Error> {
-    let franchise = Franchise {
-        below: large(),
-        share: terms.share,
-    };
-    let dear = Affordability {
-        below: large(),
-        rate: terms.dear_rate,
-    };
-    let interim = Interim { below: dear };
-    table(text, 19, &franchise, critical)?;
+fn refusals(text: &mut String, critical: &Facts, normal: &Facts) -> Result<(), fmt::Error> {
+    let interim = Interim.on(DEAR_AFFORDABILITY.on(large()));
+    table(text, 19, &FRANCHISE.on(large()), critical)?;
     table(text, 20, &interim, normal)?;
-    table(
-        text,
-        21,
-        &Franchise {
-            below: interim,
-            share: terms.share,
-        },
-        critical,
-    )
+    table(text, 21, &FRANCHISE.on(interim), critical)
 }
 
 // The months at which Northern's rates change.
@@ -198,77 +140,46 @@ fn seasons(text: &mut String, march: &Facts, april: &Facts) -> Result<(), fmt::E
 }
 
 // Riders upon riders of their own kind, and a share of a sum below zero.
-fn stacks(
-    text: &mut String,
-    terms: Terms,
-    november: &Facts,
-    idle: &Facts,
-) -> Result<(), fmt::Error> {
-    let affordability = Affordability {
-        below: small(),
-        rate: terms.rate,
-    };
-    let interim = Interim { below: small() };
-    let weather = Weather {
-        below: small(),
-        year: terms.year,
-    };
-    table(
-        text,
-        24,
-        &Affordability {
-            below: affordability,
-            rate: terms.second_rate,
-        },
-        november,
-    )?;
-    table(text, 25, &Interim { below: interim }, november)?;
-    table(
-        text,
-        26,
-        &Weather {
-            below: weather,
-            year: terms.year,
-        },
-        november,
-    )?;
-    table(
-        text,
-        27,
-        &Franchise {
-            below: large(),
-            share: terms.share,
-        },
-        idle,
-    )
+fn stacks(text: &mut String, november: &Facts, idle: &Facts) -> Result<(), fmt::Error> {
+    let affordability = AFFORDABILITY.on(small());
+    let interim = Interim.on(small());
+    let weather = WEATHER.on(small());
+    table(text, 24, &SECOND_AFFORDABILITY.on(affordability), november)?;
+    table(text, 25, &Interim.on(interim), november)?;
+    table(text, 26, &WEATHER.on(weather), november)?;
+    table(text, 27, &FRANCHISE.on(large()), idle)
 }
 
 // The mixed November and May.
-fn mixed_months(text: &mut String, heap: Global, terms: Terms) -> anyhow::Result<()> {
+fn mixed_months(text: &mut String, heap: Global) -> anyhow::Result<()> {
     let november = Pattern::Mixed { base: 1_000 }.days(heap, 30)?;
     let may = Pattern::Mixed { base: 900 }.days(heap, 31)?;
-    let Ok(november) = Facts::new(NOVEMBER, november.as_slice()) else {
-        return Err(anyhow!("November is not lawful"));
-    };
-    let Ok(may) = Facts::new(MAY, may.as_slice()) else {
-        return Err(anyhow!("May is not lawful"));
-    };
-    classes(text, terms, &november, &may)?;
-    riders(text, terms, &november, &may)?;
+    let november = Facts::new(NOVEMBER, november.as_slice()).map_err(|_| anyhow!(
+        "November is not lawful"
+    ))?;
+    let may = Facts::new(MAY, may.as_slice()).map_err(|_| anyhow!("May is not lawful"))?;
+    classes(text, &november, &may)?;
+    riders(text, &november, &may)?;
     Ok(())
 }
 
 // The full December, once critical and once normal.
-fn full_months(text: &mut String, heap: Global, terms: Terms) -> anyhow::Result<()> {
-    let critical = Pattern::Full { kind: 3 }.days(heap, 31)?;
-    let normal = Pattern::Full { kind: 0 }.days(heap, 31)?;
-    let Ok(critical) = Facts::new(DECEMBER, critical.as_slice()) else {
-        return Err(anyhow!("the critical December is not lawful"));
-    };
-    let Ok(normal) = Facts::new(DECEMBER, normal.as_slice()) else {
-        return Err(anyhow!("the normal December is not lawful"));
-    };
-    refusals(text, terms, &critical, &normal)?;
+fn full_months(text: &mut String, heap: Global) -> anyhow::Result<()> {
+    let critical = Pattern::Full {
+        kind: DayKind::Critical,
+    }
+    .days(heap, 31)?;
+    let normal = Pattern::Full {
+        kind: DayKind::Normal,
+    }
+    .days(heap, 31)?;
+    let critical = Facts::new(DECEMBER, critical.as_slice()).map_err(|_| anyhow!(
+        "the critical December is not lawful"
+    ))?;
+    let normal = Facts::new(DECEMBER, normal.as_slice()).map_err(|_| anyhow!(
+        "the normal December is not lawful"
+    ))?;
+    refusals(text, &critical, &normal)?;
     Ok(())
 }
 
@@ -276,40 +187,33 @@ fn full_months(text: &mut String, heap: Global, terms: Terms) -> anyhow::Result<
 fn spring_months(text: &mut String, heap: Global) -> anyhow::Result<()> {
     let march = Pattern::Mixed { base: 1_000 }.days(heap, 31)?;
     let april = Pattern::Mixed { base: 930 }.days(heap, 30)?;
-    let Ok(march) = Facts::new(MARCH, march.as_slice()) else {
-        return Err(anyhow!("March is not lawful"));
-    };
-    let Ok(april) = Facts::new(APRIL, april.as_slice()) else {
-        return Err(anyhow!("April is not lawful"));
-    };
+    let march = Facts::new(MARCH, march.as_slice()).map_err(|_| anyhow!("March is not lawful"))?;
+    let april = Facts::new(APRIL, april.as_slice()).map_err(|_| anyhow!("April is not lawful"))?;
     seasons(text, &march, &april)?;
     Ok(())
 }
 
 // November once more, and an idle December.
-fn stacked_months(text: &mut String, heap: Global, terms: Terms) -> anyhow::Result<()> {
+fn stacked_months(text: &mut String, heap: Global) -> anyhow::Result<()> {
     let november = Pattern::Mixed { base: 1_000 }.days(heap, 30)?;
     let idle = Pattern::Idle.days(heap, 31)?;
-    let Ok(november) = Facts::new(NOVEMBER, november.as_slice()) else {
-        return Err(anyhow!("November is not lawful"));
-    };
-    let Ok(idle) = Facts::new(DECEMBER, idle.as_slice()) else {
-        return Err(anyhow!("the idle December is not lawful"));
-    };
-    stacks(text, terms, &november, &idle)?;
+    let november = Facts::new(NOVEMBER, november.as_slice()).map_err(|_| anyhow!(
+        "November is not lawful"
+    ))?;
+    let idle = Facts::new(DECEMBER, idle.as_slice()).map_err(|_| anyhow!(
+        "the idle December is not lawful"
+    ))?;
+    stacks(text, &november, &idle)?;
     Ok(())
 }
 
 // Everything that the program prints.
 pub fn output(heap: Global) -> anyhow::Result<String> {
-    let Some(terms) = Terms::new() else {
-        return Err(anyhow!("the terms are not lawful"));
-    };
     let mut text = String::new(heap);
     writeln!(text, "case item millicents")?;
-    mixed_months(&mut text, heap, terms)?;
-    full_months(&mut text, heap, terms)?;
+    mixed_months(&mut text, heap)?;
+    full_months(&mut text, heap)?;
     spring_months(&mut text, heap)?;
-    stacked_months(&mut text, heap, terms)?;
+    stacked_months(&mut text, heap)?;
     Ok(text)
 }

@@ -1,11 +1,11 @@
 // The days of the months that are priced.
 ghost use Rattle.std.specs.Prelude.{◌≡◌, ◌≤◌, map, IfOk};
-ghost use Rattle.gas.specs.Day.{numbers_of};
+ghost use Rattle.gas.specs.Day.{kind_number, numbers_of};
 ghost use Rattle.prices.specs.Days.{full_day, idle_day, mixed_day};
 ghost use Rattle.prices.specs.Patterns.{day_of, days_to};
 
 use anyhow::anyhow;
-use gas::{DayNumbers, DayRecord};
+use gas::{DayKind, DayNumbers, DayRecord};
 use std::alloc::Global;
 
 // What the days of a month are like.
@@ -14,7 +14,7 @@ pub enum Pattern {
     // of every kind, each fifth curtailed, with receipts about a base
     Mixed { base: u16 },
     // full use with nothing nominated, all of one kind
-    Full { kind: u8 },
+    Full { kind: DayKind },
     // receipts and no use
     Idle,
 }
@@ -24,13 +24,13 @@ fn mixed(base: u16, number: u8) -> DayNumbers
     requires { number ≤ 31 }
     ensures { result ≡ mixed_day base number }
 {
-    let k = number as u32;
+    let k = u32::from(number);
     let curtailed = number % 5 == 0;
     DayNumbers {
         kind: number % 4,
-        curtailed: if curtailed { 1 } else { 0 },
+        curtailed: u8::from(curtailed),
         nomination: 903 + 11 * k,
-        receipts: base as u32 + 7 * k,
+        receipts: u32::from(base) + 7 * k,
         reading: 940 + 13 * k - 90 * (k % 3),
         after_notice: if curtailed { 40 + 5 * k } else { 0 },
         supply_cost: 20_000 + 100 * k,
@@ -39,11 +39,11 @@ fn mixed(base: u16, number: u8) -> DayNumbers
 }
 
 // A day with as much as can be metered.
-fn full(kind: u8) -> DayNumbers
-    ensures { result ≡ full_day kind }
+fn full(kind: DayKind) -> DayNumbers
+    ensures { result ≡ full_day (kind_number kind) }
 {
     DayNumbers {
-        kind,
+        kind: kind as u8,
         curtailed: 0,
         nomination: 0,
         receipts: 200_000,
@@ -89,10 +89,10 @@ impl Pattern {
         ensures { IfOk result (λ days. map numbers_of days.items ≡ days_to self count) }
     {
         let mut days = Vec::new(heap);
-        for i in 0..count {
-            let Ok(day) = DayRecord::new(self.numbers(i + 1)) else {
-                return Err(anyhow!("a day is not lawful"));
-            };
+        for number in 1..count + 1 {
+            let day = DayRecord::try_from(self.numbers(number)).map_err(|_| anyhow!(
+                "a day is not lawful"
+            ))?;
             days.push(day)?;
         }
         Ok(days)

@@ -1,51 +1,38 @@
 // The row of one item.
 ghost use Rattle.std.specs.Prelude.{Some};
-ghost use Rattle.prices.specs.Rows.{amount_text, refusal_text};
+ghost use Rattle.gas.specs.Inputs.{read};
+ghost use Rattle.prices.specs.Rows.{answer_text};
 
 use gas::{Item, Millicents, ScheduleFault};
 use std::fmt;
 
-// What an item costs in a case.
+// What an item costs in a case, or why it has no price.
 #[derive(Clone, Copy)]
 pub struct Row {
     pub case: u8,
     pub item: Item,
-    pub millicents: Millicents,
+    pub answer: Result<Millicents, ScheduleFault>,
 }
 
 impl fmt::Display for Row {
-    ghost output = { λ r. Some (amount_text r.case r.item r.millicents.amount) };
+    ghost output = { λ r. Some (answer_text r.case r.item (read (λ m. m.amount) r.answer)) };
 
     fn fmt<W: fmt::Write>(&self, f: &mut fmt::Formatter<W>) -> fmt::Result {
         let case = self.case;
         let item = self.item.number();
-        let amount = self.millicents.amount;
-        write!(f, "{case} {item} {amount}")
-    }
-}
-
-// Why an item has no price in a case.
-#[derive(Clone, Copy)]
-pub struct Refusal {
-    pub case: u8,
-    pub item: Item,
-    pub fault: ScheduleFault,
-}
-
-impl fmt::Display for Refusal {
-    ghost output = { λ r. Some (refusal_text r.case r.item r.fault) };
-
-    fn fmt<W: fmt::Write>(&self, f: &mut fmt::Formatter<W>) -> fmt::Result {
-        let case = self.case;
-        let item = self.item.number();
-        let number = self.fault.number();
-        let ScheduleFault::PastLimit {
-            month,
-            item: at,
-            layer,
-        } = self.fault;
-        let at = at.number();
-        let layer = layer.number();
-        write!(f, "{case} {item} refused {number} {month} {at} {layer}")
+        match self.answer {
+            Ok(Millicents { amount }) => write!(f, "{case} {item} {amount}"),
+            Err(fault) => {
+                let number = fault.number();
+                let ScheduleFault::PastLimit {
+                    month,
+                    item: at,
+                    layer,
+                } = fault;
+                let at = at.number();
+                let layer = layer.number();
+                write!(f, "{case} {item} refused {number} {month} {at} {layer}")
+            }
+        }
     }
 }

@@ -3,7 +3,7 @@
 
 #[cfg(test)]
 mod days {
-    use gas::{DayNumbers, DayRecord};
+    use gas::{DayNumbers, DayRecord, InputFault};
 
     const LAWFUL: DayNumbers = DayNumbers {
         kind: 3,
@@ -16,17 +16,14 @@ mod days {
         variance_rate: 2_000_000,
     };
 
-    // The number of the refusal, or 0.
-    fn refusal(numbers: DayNumbers) -> u8 {
-        match DayRecord::new(numbers) {
-            Ok(_) => 0,
-            Err(fault) => fault.number(),
-        }
+    // The number of the refusal, if the day is refused.
+    fn refusal(numbers: DayNumbers) -> Option<u8> {
+        DayRecord::try_from(numbers).err().map(InputFault::number)
     }
 
     #[test]
     fn limits_are_lawful(rt: HostRuntime) {
-        assert_eq!(rt; refusal(LAWFUL), 0);
+        assert_eq!(rt; refusal(LAWFUL), None);
     }
 
     #[test]
@@ -39,9 +36,9 @@ mod days {
             curtailed: 2,
             ..quantity
         };
-        assert_eq!(rt; refusal(quantity), 7);
-        assert_eq!(rt; refusal(mark), 6);
-        assert_eq!(rt; refusal(DayNumbers { kind: 4, ..mark }), 5);
+        assert_eq!(rt; refusal(quantity), Some(7));
+        assert_eq!(rt; refusal(mark), Some(6));
+        assert_eq!(rt; refusal(DayNumbers { kind: 4, ..mark }), Some(5));
     }
 
     #[test]
@@ -51,21 +48,21 @@ mod days {
                 receipts: 200_001,
                 ..LAWFUL
             }),
-            7
+            Some(7)
         );
         assert_eq!(rt;
             refusal(DayNumbers {
                 reading: 200_001,
                 ..LAWFUL
             }),
-            7
+            Some(7)
         );
         assert_eq!(rt;
             refusal(DayNumbers {
                 reading: 199_999,
                 ..LAWFUL
             }),
-            7,
+            Some(7),
             "more after notice than metered"
         );
         assert_eq!(rt;
@@ -73,21 +70,24 @@ mod days {
                 supply_cost: 2_000_001,
                 ..LAWFUL
             }),
-            7
+            Some(7)
         );
         assert_eq!(rt;
             refusal(DayNumbers {
                 variance_rate: 2_000_001,
                 ..LAWFUL
             }),
-            7
+            Some(7)
         );
     }
 }
 
 #[cfg(test)]
 mod months {
-    use gas::{DayNumbers, DayRecord, Facts, MonthNumbers, Totals, TotalsNumbers};
+    use gas::{
+        ClosingNumbers, DayNumbers, DayRecord, Facts, InputFault, MonthNumbers, Totals,
+        TotalsNumbers,
+    };
     use std::test::Fail;
 
     const QUIET: DayNumbers = DayNumbers {
@@ -101,11 +101,15 @@ mod months {
         variance_rate: 0,
     };
 
-    const FEBRUARY: MonthNumbers = MonthNumbers {
-        month: 3,
+    const CLOSING: ClosingNumbers = ClosingNumbers {
         index: 2_000_000,
         interruptible: 2_000_000,
         firm: 2_000_000,
+    };
+
+    const FEBRUARY: MonthNumbers = MonthNumbers {
+        month: 3,
+        closing: CLOSING,
         increase: 1_000,
         first: 28,
     };
@@ -113,31 +117,25 @@ mod months {
     const TOTALS: TotalsNumbers = TotalsNumbers {
         receipts: 6_200_000,
         readings: 6_200_000,
-        index: 2_000_000,
-        interruptible: 2_000_000,
-        firm: 2_000_000,
+        closing: CLOSING,
     };
 
-    // The number of the refusal of a month with so many quiet days, or 0.
-    fn refusal(rt: HostRuntime, numbers: MonthNumbers, count: u8) -> Result<u8, Fail> {
+    // The number of the refusal of a month with so many quiet days, if it is refused.
+    fn refusal(rt: HostRuntime, numbers: MonthNumbers, count: u8) -> Result<Option<u8>, Fail> {
+        let quiet = DayRecord::try_from(QUIET).map_err(|_| "a quiet day is refused")?;
         let mut days = Vec::new(rt.alloc());
         for _ in 0..count {
-            let Ok(day) = DayRecord::new(QUIET) else {
-                return Err(Fail::new("a quiet day is refused"));
-            };
-            days.push(day)?;
+            days.push(quiet)?;
         }
-        match Facts::new(numbers, days.as_slice()) {
-            Ok(_) => Ok(0),
-            Err(fault) => Ok(fault.number()),
-        }
+        let refused = Facts::new(numbers, days.as_slice()).err();
+        Ok(refused.map(InputFault::number))
     }
 
     #[test]
     fn february_has_28_or_29_days(rt: HostRuntime) -> Result<(), Fail> {
-        assert_eq!(rt; refusal(rt, FEBRUARY, 28)?, 0);
-        assert_eq!(rt; refusal(rt, FEBRUARY, 29)?, 0);
-        assert_eq!(rt; refusal(rt, FEBRUARY, 30)?, 25);
+        assert_eq!(rt; refusal(rt, FEBRUARY, 28)?, None);
+        assert_eq!(rt; refusal(rt, FEBRUARY, 29)?, None);
+        assert_eq!(rt; refusal(rt, FEBRUARY, 30)?, Some(25));
         assert_eq!(rt;
             refusal(
                 rt,
@@ -147,7 +145,7 @@ mod months {
                 },
                 28,
             )?,
-            25
+            Some(25)
         );
         Ok(())
     }
@@ -159,15 +157,21 @@ mod months {
             ..FEBRUARY
         };
         let firm = MonthNumbers {
-            firm: 2_000_001,
+            closing: ClosingNumbers {
+                firm: 2_000_001,
+                ..CLOSING
+            },
             ..increase
         };
         let first = MonthNumbers { first: 29, ..firm };
-        assert_eq!(rt; refusal(rt, FEBRUARY, 27)?, 25);
-        assert_eq!(rt; refusal(rt, increase, 27)?, 8);
-        assert_eq!(rt; refusal(rt, firm, 27)?, 7);
-        assert_eq!(rt; refusal(rt, first, 27)?, 4);
-        assert_eq!(rt; refusal(rt, MonthNumbers { month: 12, ..first }, 27)?, 3);
+        assert_eq!(rt; refusal(rt, FEBRUARY, 27)?, Some(25));
+        assert_eq!(rt; refusal(rt, increase, 27)?, Some(8));
+        assert_eq!(rt; refusal(rt, firm, 27)?, Some(7));
+        assert_eq!(rt; refusal(rt, first, 27)?, Some(4));
+        assert_eq!(rt;
+            refusal(rt, MonthNumbers { month: 12, ..first }, 27)?,
+            Some(3)
+        );
         Ok(())
     }
 
@@ -182,9 +186,9 @@ mod months {
             first: 30,
             ..FEBRUARY
         };
-        assert_eq!(rt; refusal(rt, last, 28)?, 4);
-        assert_eq!(rt; refusal(rt, last, 29)?, 0);
-        assert_eq!(rt; refusal(rt, november, 29)?, 25);
+        assert_eq!(rt; refusal(rt, last, 28)?, Some(4));
+        assert_eq!(rt; refusal(rt, last, 29)?, None);
+        assert_eq!(rt; refusal(rt, november, 29)?, Some(25));
         assert_eq!(rt;
             refusal(
                 rt,
@@ -194,49 +198,49 @@ mod months {
                 },
                 31,
             )?,
-            4
+            Some(4)
         );
         Ok(())
     }
 
-    // The number of the refusal of a month's totals, or 0.
-    fn totals_refusal(numbers: TotalsNumbers) -> u8 {
-        match Totals::new(numbers) {
-            Ok(_) => 0,
-            Err(fault) => fault.number(),
-        }
+    // The number of the refusal of a month's totals, if they are refused.
+    fn totals_refusal(numbers: TotalsNumbers) -> Option<u8> {
+        Totals::try_from(numbers).err().map(InputFault::number)
     }
 
     #[test]
     fn totals_have_limits(rt: HostRuntime) {
-        assert_eq!(rt; totals_refusal(TOTALS), 0);
+        assert_eq!(rt; totals_refusal(TOTALS), None);
         assert_eq!(rt;
             totals_refusal(TotalsNumbers {
                 receipts: 6_200_001,
                 ..TOTALS
             }),
-            7
+            Some(7)
         );
         assert_eq!(rt;
             totals_refusal(TotalsNumbers {
                 readings: 6_200_001,
                 ..TOTALS
             }),
-            7
+            Some(7)
         );
         assert_eq!(rt;
             totals_refusal(TotalsNumbers {
-                index: 2_000_001,
+                closing: ClosingNumbers {
+                    index: 2_000_001,
+                    ..CLOSING
+                },
                 ..TOTALS
             }),
-            7
+            Some(7)
         );
     }
 }
 
 #[cfg(test)]
 mod edges {
-    use gas::{DayNumbers, DayRecord, Month, Pipeline, Totals, TotalsNumbers};
+    use gas::{ClosingNumbers, DayNumbers, DayRecord, Month, Pipeline, Totals, TotalsNumbers};
     use pipelines::Northern;
     use std::test::Fail;
     use tariff::{FirmInterruptible, RateClass};
@@ -248,7 +252,7 @@ mod edges {
         reading: u32,
         after_notice: u32,
     ) -> Result<DayRecord, Fail> {
-        match DayRecord::new(DayNumbers {
+        let numbers = DayNumbers {
             kind,
             curtailed,
             nomination,
@@ -257,32 +261,29 @@ mod edges {
             after_notice,
             supply_cost: 0,
             variance_rate: 0,
-        }) {
-            Ok(day) => Ok(day),
-            Err(_) => Err(Fail::new("the day is refused")),
-        }
+        };
+        Ok(DayRecord::try_from(numbers).map_err(|_| "the day is refused")?)
     }
 
     // The charge of a November day on Northern.
     fn charge(kind: u8, curtailed: u8, nomination: u32, reading: u32) -> Result<i64, Fail> {
-        let Ok(november) = Month::new(0) else {
-            return Err(Fail::new("November is refused"));
-        };
+        let november = Month::try_from(0).map_err(|_| "November is refused")?;
         let day = day(kind, curtailed, nomination, reading, 0)?;
         Ok(Northern.daily(november, &day).amount)
     }
 
     // The balancing of a month on Northern.
     fn balance(receipts: u32, readings: u32) -> Result<i64, Fail> {
-        let Ok(totals) = Totals::new(TotalsNumbers {
+        let numbers = TotalsNumbers {
             receipts,
             readings,
-            index: 30_000,
-            interruptible: 1_000,
-            firm: 1_000,
-        }) else {
-            return Err(Fail::new("the totals are refused"));
+            closing: ClosingNumbers {
+                index: 30_000,
+                interruptible: 1_000,
+                firm: 1_000,
+            },
         };
+        let totals = Totals::try_from(numbers).map_err(|_| "the totals are refused")?;
         Ok(Northern.monthly(&totals).amount)
     }
 
@@ -306,9 +307,7 @@ mod edges {
 
     #[test]
     fn unauthorized_therms(rt: HostRuntime) -> Result<(), Fail> {
-        let Ok(firm) = FirmInterruptible::new(200) else {
-            return Err(Fail::new("the base level is refused"));
-        };
+        let firm = FirmInterruptible::try_from(200).map_err(|_| "the base level is refused")?;
         assert_eq!(rt; firm.unauthorized(&day(0, 1, 0, 500, 400)?).count, 300);
         Ok(())
     }
@@ -316,11 +315,11 @@ mod edges {
 
 #[cfg(test)]
 mod terms {
-    use gas::{Millicents, Month, PerMille, Rate};
-    use pipelines::{Tolerance, ToleranceNumbers};
-    use riders::{GasYear, weather_rate};
+    use gas::{InputFault, Millicents, Month, PerMille, Rate};
+    use pipelines::{PipelineFault, Tolerance, ToleranceNumbers};
+    use riders::{GasYear, RiderFault, weather_rate};
     use std::test::Fail;
-    use tariff::FirmInterruptible;
+    use tariff::{ClassFault, FirmInterruptible};
 
     const TOLERANCE: ToleranceNumbers = ToleranceNumbers {
         day: 100,
@@ -330,12 +329,11 @@ mod terms {
         rate: 2_000_000,
     };
 
-    // The number of the refusal of a tolerance pipeline, or 0.
-    fn refusal(numbers: ToleranceNumbers) -> u8 {
-        match Tolerance::new(numbers) {
-            Ok(_) => 0,
-            Err(fault) => fault.number(),
-        }
+    // The number of the refusal of a tolerance pipeline, if it is refused.
+    fn refusal(numbers: ToleranceNumbers) -> Option<u8> {
+        Tolerance::try_from(numbers)
+            .err()
+            .map(PipelineFault::number)
     }
 
     #[test]
@@ -344,99 +342,92 @@ mod terms {
             day: 101,
             ..TOLERANCE
         };
-        assert_eq!(rt; refusal(TOLERANCE), 0);
-        assert_eq!(rt; refusal(day), 8);
+        assert_eq!(rt; refusal(TOLERANCE), None);
+        assert_eq!(rt; refusal(day), Some(8));
         assert_eq!(rt;
             refusal(ToleranceNumbers {
                 month: 101,
                 ..TOLERANCE
             }),
-            8
+            Some(8)
         );
         assert_eq!(rt;
             refusal(ToleranceNumbers {
                 over: 201,
                 ..TOLERANCE
             }),
-            8
+            Some(8)
         );
         assert_eq!(rt;
             refusal(ToleranceNumbers {
                 under: 201,
                 ..TOLERANCE
             }),
-            8
+            Some(8)
         );
         assert_eq!(rt;
             refusal(ToleranceNumbers {
                 rate: 2_000_001,
                 ..day
             }),
-            7
+            Some(7)
         );
     }
 
-    // The number of the refusal of a base level, or 0.
-    fn base_refusal(base: u32) -> u8 {
-        match FirmInterruptible::new(base) {
-            Ok(_) => 0,
-            Err(fault) => fault.number(),
-        }
+    // The number of the refusal of a base level, if it is refused.
+    fn base_refusal(base: u32) -> Option<u8> {
+        FirmInterruptible::try_from(base)
+            .err()
+            .map(ClassFault::number)
     }
 
     #[test]
     fn base_level(rt: HostRuntime) {
-        assert_eq!(rt; base_refusal(199), 7);
-        assert_eq!(rt; base_refusal(200), 0);
-        assert_eq!(rt; base_refusal(200_000), 0);
-        assert_eq!(rt; base_refusal(200_001), 7);
+        assert_eq!(rt; base_refusal(199), Some(7));
+        assert_eq!(rt; base_refusal(200), None);
+        assert_eq!(rt; base_refusal(200_000), None);
+        assert_eq!(rt; base_refusal(200_001), Some(7));
     }
 
-    // A share of a sum, or -1 if the share is refused.
-    fn share(share: u16, amount: i64) -> i64 {
-        match PerMille::new(share) {
-            Ok(share) => share.of(Millicents { amount }).amount,
-            Err(_) => -1,
-        }
+    // A share of a sum, or the number of its refusal.
+    fn share(share: u16, amount: i64) -> Result<i64, u8> {
+        let share = PerMille::try_from(share).map_err(InputFault::number)?;
+        Ok(share.of(Millicents { amount }).amount)
     }
 
     #[test]
     fn shares_of_sums(rt: HostRuntime) {
-        assert_eq!(rt; share(1, 499), 0);
-        assert_eq!(rt; share(1, 500), 1);
-        assert_eq!(rt; share(137, 52_813_000), 7_235_381);
-        assert_eq!(rt; share(1_000, -1), 0);
+        assert_eq!(rt; share(1, 499), Ok(0));
+        assert_eq!(rt; share(1, 500), Ok(1));
+        assert_eq!(rt; share(137, 52_813_000), Ok(7_235_381));
+        assert_eq!(rt; share(1_000, -1), Ok(0));
         assert_eq!(rt;
             share(1_000, 9_223_372_036_854_775_807),
-            9_223_372_036_854_775_807
+            Ok(9_223_372_036_854_775_807)
         );
-        assert_eq!(rt; share(1_001, 1), -1);
-        assert!(rt; Rate::new(2_000_001).is_err());
+        assert_eq!(rt; share(1_001, 1), Err(8));
+        assert!(rt; Rate::try_from(2_000_001).is_err());
     }
 
-    // The weather rate of a month, or the refusal of its gas year.
-    fn weather(start: u16, month: u8) -> Result<u32, Fail> {
-        let Ok(month) = Month::new(month) else {
-            return Err(Fail::new("the month is refused"));
-        };
-        match GasYear::new(start) {
-            Ok(year) => Ok(weather_rate(year, month).price),
-            Err(fault) => Ok(fault.number() as u32),
-        }
+    // The weather rate of a month, or the number of the refusal of its gas year.
+    fn weather(start: u16, month: u8) -> Result<Result<u32, u8>, Fail> {
+        let month = Month::try_from(month).map_err(|_| "the month is refused")?;
+        let year = GasYear::try_from(start).map_err(RiderFault::number);
+        Ok(year.map(|year| weather_rate(year, month).price))
     }
 
     #[test]
     fn weather_at_the_edges(rt: HostRuntime) -> Result<(), Fail> {
-        assert_eq!(rt; weather(2019, 0)?, 11);
-        assert_eq!(rt; weather(2020, 9)?, 0);
-        assert_eq!(rt; weather(2020, 10)?, 19_464);
-        assert_eq!(rt; weather(2021, 1)?, 7_786);
-        assert_eq!(rt; weather(2021, 2)?, 4_610);
-        assert_eq!(rt; weather(2022, 4)?, 3_932);
-        assert_eq!(rt; weather(2022, 6)?, 9_831);
-        assert_eq!(rt; weather(2026, 0)?, 3_932);
-        assert_eq!(rt; weather(2026, 1)?, 0);
-        assert_eq!(rt; weather(2027, 0)?, 11);
+        assert_eq!(rt; weather(2019, 0)?, Err(11));
+        assert_eq!(rt; weather(2020, 9)?, Ok(0));
+        assert_eq!(rt; weather(2020, 10)?, Ok(19_464));
+        assert_eq!(rt; weather(2021, 1)?, Ok(7_786));
+        assert_eq!(rt; weather(2021, 2)?, Ok(4_610));
+        assert_eq!(rt; weather(2022, 4)?, Ok(3_932));
+        assert_eq!(rt; weather(2022, 6)?, Ok(9_831));
+        assert_eq!(rt; weather(2026, 0)?, Ok(3_932));
+        assert_eq!(rt; weather(2026, 1)?, Ok(0));
+        assert_eq!(rt; weather(2027, 0)?, Err(11));
         Ok(())
     }
 }

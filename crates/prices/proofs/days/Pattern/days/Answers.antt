@@ -1,6 +1,10 @@
-use Rattle.prices.proofs.Months.{one_more}
+use Rattle.std.proofs.Common.{rules, ◌≡◌, Ok, arith}
+use Rattle.gas.specs.Day.{numbers_of}
+use Rattle.gas.specs.Inputs.{checked_day}
+use Rattle.prices.proofs.Months.{kth_day}
 use Rattle.prices.proofs.days.Pattern.days.Goals as goal
 
-pub loop-i-preserved : goal.loop-i-preserved
-loop-i-preserved c =
-    one_more c.args.self c.loop-i.i _ _ c.in-Ok.day _ c.loop-i.invariant c.numbers.ensures c.in-Ok.ensures c.in_ok-push.ensures.items
+pub loop-number-preserved : goal.loop-number-preserved
+loop-number-preserved c =
+    let made : Ok (numbers_of c.in_ok-day.day) ≡ checked_day c.numbers.result = search rules in
+    kth_day c.args.self c.loop-number.number _ _ c.in_ok-day.day _ (omega arith) c.loop-number.invariant c.numbers.ensures made c.in_ok-push.ensures.items
