@@ -1,5 +1,5 @@
 -- The days of the months of a gas year, which begins in November.
-use Rattle.std.specs.Prelude.{ℕ, Bool, true, false, cond, ◌||◌, List, [], ◌∷◌, ◌==◌, slice_index}
+use Rattle.std.specs.Prelude.{ℕ, Bool, true, false, if◌then◌else◌, ◌||◌, List, [], ◌∷◌, ◌==◌, slice_index}
 
 -- November to October of a common year
 abbrev pub common_year : List ℕ
@@ -11,7 +11,7 @@ leap_year = 30 ∷ 31 ∷ 31 ∷ 29 ∷ 31 ∷ 30 ∷ 31 ∷ 30 ∷ 31 ∷ 31 �
 
 -- the days of a month; 0 past the twelve
 abbrev pub month_length : Bool → ℕ → ℕ
-month_length leap month = slice_index (cond leap leap_year common_year) month
+month_length leap month = slice_index (if leap then leap_year else common_year) month
 
 -- the last day of a month that has so many days: a February of 29 is that of a leap year
 abbrev pub month_end : ℕ → ℕ → ℕ

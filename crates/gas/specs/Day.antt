@@ -2,7 +2,7 @@
 -- Words:
 -- `nominated`, `received`, `metered` and `after_notice_of`, a lawful day's quantities in therms
 -- `supply_cost_of` and `variance_rate_of`, in millicents per therm
-use Rattle.std.specs.Prelude.{ℕ, Bool, cond}
+use Rattle.std.specs.Prelude.{ℕ, Bool, if◌then◌else◌}
 use Rattle.gas.specs.declared.day.DayKind.{DayKind}
 use Rattle.gas.specs.declared.day.DayKind.TheVariants.{Normal, Sul, Sol, Critical}
 use Rattle.gas.specs.declared.day.DayNumbers.{DayNumbers}
@@ -35,7 +35,7 @@ kind_number Critical = 3
 
 -- the number of a mark
 abbrev pub mark_number : Bool → ℕ
-mark_number b = cond b 1 0
+mark_number b = if b then 1 else 0
 
 -- the eight numbers of which a lawful day was made
 abbrev pub numbers_of : DayRecord → DayNumbers

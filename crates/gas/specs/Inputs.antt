@@ -1,5 +1,5 @@
 -- When a number from outside is taken, and which refusal it gets if not.
-use Rattle.std.specs.Prelude.{ℕ, Bool, cond, ◌&&◌, Ok, Err, Result, nat_le}
+use Rattle.std.specs.Prelude.{ℕ, Bool, if◌then◌else◌, ◌&&◌, Ok, Err, Result, nat_le}
 use Rattle.gas.specs.declared.day.DayNumbers.{DayNumbers}
 use Rattle.gas.specs.declared.faults.InputFault.{InputFault}
 use Rattle.gas.specs.declared.faults.InputFault.TheVariants.{Month, DayKind, Mark, Quantity, PerMille}
@@ -13,7 +13,7 @@ read f (Err e) = Err e
 
 -- a number that passes its test, or the refusal
 abbrev pub unless : {A F : Type 0} → Bool → F → A → Result A F
-unless ok e a = cond ok (Ok a) (Err e)
+unless ok e a = if ok then Ok a else Err e
 
 -- the most millicents per therm, and the most therms of a day and of a month, which is 31 days' worth
 abbrev pub most_per_therm : ℕ
@@ -66,7 +66,7 @@ lawful_day d =
 -- a day's kind comes first, then its mark, then its quantities
 abbrev pub checked_day : DayNumbers → Result DayNumbers InputFault
 checked_day d =
-    cond (nat_le d.kind 3) (cond (nat_le d.curtailed 1) (unless (lawful_day d) Quantity d) (Err Mark)) (Err DayKind)
+    if nat_le d.kind 3 then (if nat_le d.curtailed 1 then unless (lawful_day d) Quantity d else Err Mark) else Err DayKind
 
 -- the three numbers that close a month are rates
 abbrev pub closes : ClosingNumbers → Bool

@@ -1,16 +1,16 @@
 -- The days of the months that are priced.
-use Rattle.std.specs.Prelude.{ℕ, ◌+◌, ◌-◌, ◌*◌, ◌%◌, cond, ◌==◌}
+use Rattle.std.specs.Prelude.{ℕ, ◌+◌, ◌-◌, ◌*◌, ◌%◌, if◌then◌else◌, ◌==◌}
 use Rattle.gas.specs.declared.day.DayNumbers.{DayNumbers}
 
 -- the k-th day of a month of every kind of day: each fifth is curtailed
 abbrev pub mixed_day : ℕ → ℕ → DayNumbers
 mixed_day base k = record {
   kind = k % 4;
-  curtailed = cond (k % 5 == 0) 1 0;
+  curtailed = if k % 5 == 0 then 1 else 0;
   nomination = 903 + 11 * k;
   receipts = base + 7 * k;
   reading = 940 + 13 * k - 90 * (k % 3);
-  after_notice = cond (k % 5 == 0) (40 + 5 * k) 0;
+  after_notice = if k % 5 == 0 then 40 + 5 * k else 0;
   supply_cost = 20000 + 100 * k;
   variance_rate = 30000 + 50 * k;
 }
