@@ -1,4 +1,2 @@
 pub mod Balances
 pub mod Collecting
-pub mod Leading
-pub mod Posted

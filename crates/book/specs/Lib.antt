@@ -1,5 +1,4 @@
-pub mod Closings
 pub mod Days
-pub mod Runs
+pub mod Slots
 pub mod Tables
 pub mod Terms

@@ -1,53 +1,57 @@
 // The numbers that closed the months so far, from November on.
-ghost use Rattle.std.specs.Prelude.{◌≡◌, ◌+◌, ◌<◌, ◌≤◌, [], ◌∷◌, ◌++◌, length, slice_index_or};
+ghost use Rattle.std.specs.Prelude.{◌≡◌, ◌<◌, [], ◌∷◌, ◌++◌, length, slice_index_or};
 ghost use Rattle.gas.specs.Month.{closing_numbers};
-ghost use Rattle.book.specs.Closings.{closing_list};
+ghost use Rattle.history.specs.Prices.{nothing_charged};
 
-use gas::{Closing, Rate};
+use arrayvec::ArrayVec;
+use gas::Closing;
+use std::marker::Model;
 
-const NO_RATE: Rate = Rate { price: 0 };
-
-const NO_CLOSING: Closing = Closing {
-    index: NO_RATE,
-    interruptible: NO_RATE,
-    firm: NO_RATE,
-};
-
-// The first `count` months are closed.
-#[derive(Clone, Copy)]
+// At most the twelve months of a gas year. A contract sees it as the list of their numbers.
+#[derive(Drop)]
 pub struct Closings {
-    pub months: [Closing; 12],
-    pub count: u8,
+    months: ArrayVec<Closing, 12>,
+}
+
+impl Model for Closings {
+    ghost use Rattle.std.specs.Prelude.{List, map};
+    ghost use Rattle.gas.specs.declared.month.ClosingNumbers.{ClosingNumbers};
+    ghost use Rattle.gas.specs.Month.{closing_numbers};
+
+    ghost Value = { List ClosingNumbers };
+
+    ghost view = { λ c. map closing_numbers c.months.items };
 }
 
 impl Closings {
     pub fn new() -> Closings
-        ensures none { result.count ≡ 0 }
-        ensures sized { length result.months ≡ 12 }
+        ensures { result ≡ [] }
     {
         Closings {
-            months: [NO_CLOSING; 12],
-            count: 0,
+            months: ArrayVec::new(),
         }
+    }
+
+    // How many months are closed.
+    pub fn count(&self) -> usize
+        ensures { result ≡ length self.now }
+    {
+        self.months.len()
     }
 
     // What closed a month.
     pub fn get(&self, month: u8) -> Closing
-        requires { (length self.now.months ≡ 12) × ((self.now.count ≤ 12) × (month < self.now.count)) }
-        ensures { closing_numbers result ≡ slice_index_or (closing_list self.now) month (0, 0, 0) }
+        requires { month < length self.now }
+        ensures { closing_numbers result ≡ slice_index_or self.now month nothing_charged }
     {
         self.months[month as usize]
     }
 
     // Closes one month more.
     pub fn push(&mut self, closing: Closing)
-        requires { (length self.old.months ≡ 12) × (self.old.count < 12) }
-        ensures is { closing_list self.new ≡ closing_list self.old ++ (closing_numbers closing ∷ []) }
-        ensures more { self.new.count ≡ self.old.count + 1 }
-        ensures sized { length self.new.months ≡ 12 }
+        requires { length self.old < 12 }
+        ensures { self.new ≡ self.old ++ closing_numbers closing ∷ [] }
     {
-        let count = self.count;
-        self.months[count as usize] = closing;
-        self.count = count + 1;
+        self.months.push(closing);
     }
 }

@@ -1,104 +1,96 @@
 // The table of a year's days, and the posted days of a month.
-ghost use Rattle.std.specs.Prelude.{◌≡◌, ◌<◌, ◌≤◌, length, take, replicate, Some, None, slice_index_or, slice_set};
+ghost use Rattle.std.specs.Prelude.{◌≡◌, ◌+◌, ◌*◌, ◌<◌, ◌≤◌, length, replicate, Some, None, slice_index_or, slice_set};
 ghost use Rattle.std.specs.Option.{option_to_list};
 ghost use Rattle.std.specs.List.{flat_map};
 ghost use Rattle.history.specs.Days.{month_places};
 ghost use Rattle.book.specs.Days.{exchanged};
 
-use gas::{DayKind, DayRecord, Month, Rate, Therms};
+use crate::places::{Place, places_of};
+use arrayvec::ArrayVec;
+use gas::{DayRecord, Month};
+use std::marker::Model;
+use std::mem;
 
-const A_MONTH: usize = 31;
-
-const NO_RATE: Rate = Rate { price: 0 };
-
-const NO_DAY: DayRecord = DayRecord {
-    kind: DayKind::Normal,
-    curtailed: false,
-    nomination: Therms { count: 0 },
-    receipts: Therms { count: 0 },
-    reading: Therms { count: 0 },
-    after_notice: Therms { count: 0 },
-    supply_cost: NO_RATE,
-    variance_rate: NO_RATE,
-};
-
-// A place for each day, 31 for a month, in the order of dates.
-#[derive(Clone, Copy)]
+// What stands at each place of the year. A contract sees it as the list of these.
+#[derive(Drop)]
 pub struct DayTable {
-    pub places: [Option<DayRecord>; 372],
+    places: [Option<DayRecord>; 372],
 }
 
-// The posted days of a month in order: the first `count`.
-#[derive(Clone, Copy)]
-pub struct MonthDays {
-    pub days: [DayRecord; 31],
-    pub count: usize,
+impl Model for DayTable {
+    ghost use Rattle.std.specs.Prelude.{◌≡◌, length};
+    ghost use Rattle.history.specs.Days.{Places};
+
+    ghost Value = { Places };
+
+    ghost view = { λ t. t.places };
+
+    ghost invariant = { λ t. length t.places ≡ 372 };
 }
+
+// The posted days of a month in order.
+pub type MonthDays = ArrayVec<DayRecord, 31>;
 
 impl DayTable {
     pub fn new() -> DayTable
-        ensures { result.places ≡ replicate 372 None }
+        ensures { result ≡ replicate 372 None }
     {
         DayTable {
             places: [None; 372],
         }
     }
 
-    // What stands at a place.
-    pub fn get(&self, place: usize) -> Option<DayRecord>
-        requires { (length self.now.places ≡ 372) × (place < 372) }
-        ensures { result ≡ slice_index_or self.now.places place None }
+    // All places.
+    pub fn as_slice(&self) -> &[Option<DayRecord>]
+        ensures { result.now ≡ self.now }
     {
-        self.places[place]
+        &self.places
+    }
+
+    // What stands at a place.
+    pub fn get(&self, place: Place) -> Option<DayRecord>
+        ensures { result ≡ slice_index_or self.now place.index None }
+    {
+        self.places[place.index]
     }
 
     // Puts a record at a place.
-    pub fn set(&mut self, place: usize, day: DayRecord)
-        requires { (length self.old.places ≡ 372) × (place < 372) }
-        ensures { self.new.places ≡ slice_set self.old.places place (Some day) }
+    pub fn set(&mut self, place: Place, day: DayRecord)
+        ensures { self.new ≡ slice_set self.old place.index (Some day) }
     {
-        self.places[place] = Some(day);
+        self.places[place.index] = Some(day);
     }
 
     // Lends the record at a place to be replaced and answers what it was; an empty place stays empty.
-    pub fn exchange(&mut self, place: usize, day: DayRecord) -> Option<DayRecord>
-        requires { (length self.old.places ≡ 372) × (place < 372) }
-        ensures before { result ≡ slice_index_or self.old.places place None }
-        ensures after { self.new.places ≡ exchanged self.old.places place day result }
+    pub fn exchange(&mut self, place: Place, day: DayRecord) -> Option<DayRecord>
+        ensures before { result ≡ slice_index_or self.old place.index None }
+        ensures after { self.new ≡ exchanged self.old place.index day result }
     {
-        let lent = &mut self.places[place];
-        let before = *lent;
-        if before.is_some() {
-            *lent = Some(day);
+        match &mut self.places[place.index] {
+            Some(record) => Some(mem::replace(record, day)),
+            None => None,
         }
-        before
     }
 
     // The places of a month's days.
     pub fn month(&self, month: Month, leap: bool) -> &[Option<DayRecord>]
-        requires { length self.now.places ≡ 372 }
-        ensures is { result.now ≡ month_places leap self.now.places month.number }
+        ensures is { result.now ≡ month_places leap self.now month.number }
         ensures few { length result.now ≤ 31 }
     {
-        let from = A_MONTH * month.number as usize;
-        &self.places[from..from + month.length(leap) as usize]
+        &self.places[places_of(month, leap)]
     }
 }
 
 // Those of some places that have a record.
 pub fn posted(places: &[Option<DayRecord>]) -> MonthDays
     requires { length places.now ≤ 31 }
-    ensures is { take result.count result.days ≡ flat_map option_to_list places.now }
-    ensures few { result.count ≤ 31 }
-    ensures sized { length result.days ≡ 31 }
+    ensures { result.items ≡ flat_map option_to_list places.now }
 {
-    let mut days = [NO_DAY; 31];
-    let mut count = 0;
+    let mut days = MonthDays::new();
     for place in places {
         if let Some(day) = place {
-            days[count] = *day;
-            count += 1;
+            days.push(*day);
         }
     }
-    MonthDays { days, count }
+    days
 }

@@ -4,6 +4,7 @@
 mod closings;
 mod days;
 mod first;
+mod places;
 mod run;
 mod table;
 mod targets;

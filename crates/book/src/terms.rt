@@ -28,7 +28,7 @@ impl OpeningTerms {
     pub fn in_force(&self, increase: PerMille, month: Month) -> PerMille
         ensures { result.share ≡ increase_in_force (opening_numbers self.now) increase.share month.number }
     {
-        if self.first.number <= month.number && month.number <= self.last.number {
+        if (self.first.number..=self.last.number).contains(&month.number) {
             increase
         } else {
             NO_INCREASE

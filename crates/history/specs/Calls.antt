@@ -5,6 +5,7 @@ use Rattle.gas.specs.declared.day.DayRecord.{DayRecord}
 use Rattle.gas.specs.declared.faults.InputFault.{InputFault}
 use Rattle.gas.specs.declared.faults.InputFault.TheVariants as input
 use Rattle.gas.specs.declared.items.ScheduleFault.{ScheduleFault}
+use Rattle.gas.specs.declared.month.ClosingNumbers.{ClosingNumbers}
 use Rattle.gas.specs.Calendar.{month_length}
 use Rattle.gas.specs.Inputs.{closes, last_month, lawful_day, whole}
 use Rattle.gas.specs.Limits.{furthest}
@@ -16,21 +17,21 @@ use Rattle.history.specs.Days.{Places, day_of, is_complete, place_of}
 use Rattle.history.specs.Due.{due_in}
 use Rattle.history.specs.Headings.{line_of}
 use Rattle.history.specs.Prices.{Tariff}
-use Rattle.history.specs.Year.{Settlement, Standing, Year, is_opened, is_settled, not_opened, opening_of, running, settled}
+use Rattle.history.specs.Year.{Opening, Settlement, Standing, Year, is_opened, is_settled, not_opened, opening_of, running, settled}
 
 -- a call with its numbers as they came, lawful or not
 pub data Call : Type 0 where
-  -- the leap mark, the interim increase, the first and the last interim month
-  opening : ℕ → ℕ → ℕ → ℕ → Call
+  -- the leap mark, and what is said of the interim rate
+  opening : ℕ → Opening → Call
   -- the month, the day, and what the day is
   posting : ℕ → ℕ → DayNumbers → Call
   correction : ℕ → ℕ → DayNumbers → Call
-  -- the month, then index, interruptible and firm transport
-  closing : ℕ → ℕ → ℕ → ℕ → Call
+  -- the month, and what closes it
+  closing : ℕ → ClosingNumbers → Call
   -- what is paid
   payment : ℕ → Call
   -- the final increase and the interest
-  settling : ℕ → ℕ → Call
+  settling : Settlement → Call
 
 -- an account, by what it knows and what it has written
 pub record State : Type 0 where
@@ -62,17 +63,17 @@ is_posted y month day = is_some (slice_index_or y.days (place_of month day) None
 
 -- 20 and 21 first, then the input's by number, then the other ones of the state by number
 abbrev pub tests : Call → Year → Tests
-tests (opening leap increase first last) y =
-    (not (is_opened y.standing), fault.OpenedAlready) ∷ lawful (nat_le first last_month && (nat_le last last_month && nat_le first last)) input.Month ∷
-    lawful (nat_le leap 1) input.Mark ∷ lawful (nat_le increase whole) input.PerMille ∷ []
+tests (opening leap o) y =
+    (not (is_opened y.standing), fault.OpenedAlready) ∷ lawful (nat_le o.first last_month && (nat_le o.last last_month && nat_le o.first o.last)) input.Month ∷
+    lawful (nat_le leap 1) input.Mark ∷ lawful (nat_le o.increase whole) input.PerMille ∷ []
 tests (posting month day n) y = day_tests y month day n (not (is_posted y month day), fault.PostedAlready)
 tests (correction month day n) y = day_tests y month day n (is_posted y month day, fault.NotPosted)
-tests (closing month index interruptible firm) y =
-    opened y ∷ lawful (nat_le month last_month) input.Month ∷ lawful (closes index interruptible firm) input.Quantity ∷
+tests (closing month numbers) y =
+    opened y ∷ lawful (nat_le month last_month) input.Month ∷ lawful (closes numbers) input.Quantity ∷
     ((month == length y.closings), fault.NotEarliest) ∷ (is_complete y.leap y.days month, fault.LacksDay) ∷ []
 tests (payment amount) y = opened y ∷ (nat_le 1 amount && nat_le amount furthest, fault.Payment) ∷ []
-tests (settling final interest) y =
-    opened y ∷ lawful (nat_le final whole && nat_le interest whole) input.PerMille ∷ (not (is_settled y.standing), fault.SettledAlready) ∷
+tests (settling t) y =
+    opened y ∷ lawful (nat_le t.final whole && nat_le t.interest whole) input.PerMille ∷ (not (is_settled y.standing), fault.SettledAlready) ∷
     (nat_lt (opening_of y.standing).last (length y.closings), fault.InterimOpen) ∷ []
 
 -- the days with one more or another record
@@ -85,35 +86,34 @@ settled_by t not_opened = not_opened
 settled_by t (running o) = settled o t
 settled_by t (settled o old) = settled o old
 
+-- a year with the record of a day, posted or put in another's place
+abbrev pub with_day : Year → ℕ → ℕ → DayNumbers → Year
+with_day y month day n = record {
+  standing = y.standing;
+  leap = y.leap;
+  days = stored (day_of n) y.days (place_of month day);
+  closings = y.closings;
+}
+
 -- the year as known after a call that was accepted
 abbrev pub learned : Call → Year → Year
-learned (opening leap increase first last) y = record {
-  standing = running (record { increase = increase; first = first; last = last });
+learned (opening leap o) y = record {
+  standing = running o;
   leap = (leap == 1);
   days = y.days;
   closings = y.closings;
 }
-learned (posting month day n) y = record {
-  standing = y.standing;
-  leap = y.leap;
-  days = stored (day_of n) y.days (place_of month day);
-  closings = y.closings;
-}
-learned (correction month day n) y = record {
-  standing = y.standing;
-  leap = y.leap;
-  days = stored (day_of n) y.days (place_of month day);
-  closings = y.closings;
-}
-learned (closing month index interruptible firm) y = record {
+learned (posting month day n) y = with_day y month day n
+learned (correction month day n) y = with_day y month day n
+learned (closing month numbers) y = record {
   standing = y.standing;
   leap = y.leap;
   days = y.days;
-  closings = y.closings ++ ((index, interruptible, firm) ∷ []);
+  closings = y.closings ++ (numbers ∷ []);
 }
 learned (payment amount) y = y
-learned (settling final interest) y = record {
-  standing = settled_by (record { final = final; interest = interest }) y.standing;
+learned (settling t) y = record {
+  standing = settled_by t y.standing;
   leap = y.leap;
   days = y.days;
   closings = y.closings;
@@ -125,12 +125,12 @@ by_account (Err e) = Err (fault.Schedule e)
 
 -- the lines that a call writes in the year as known after it, or the fault of a price
 abbrev pub written : Tariff → Call → Year → List Line → Result (List Line) AccountFault
-written s (opening leap increase first last) y lines = Ok []
+written s (opening leap o) y lines = Ok []
 written s (posting month day n) y lines = Ok []
 written s (correction month day n) y lines = by_account (due_in s y lines)
-written s (closing month index interruptible firm) y lines = by_account (due_in s y lines)
+written s (closing month numbers) y lines = by_account (due_in s y lines)
 written s (payment amount) y lines = Ok (line_of heading.Payment (pos 0) (neg_ℤ (pos amount)) ∷ [])
-written s (settling final interest) y lines = by_account (due_in s y lines)
+written s (settling t) y lines = by_account (due_in s y lines)
 
 -- an account has room for 1,024 lines
 abbrev pub most_lines : ℕ

@@ -2,8 +2,8 @@
 -- Words:
 -- a place, where a day's record stands or does not stand: 31 for each month, in the order of dates
 -- a day is posted where its place has a record
-use Rattle.std.specs.Prelude.{◌≡◌, ℕ, ◌+◌, ◌-◌, ◌*◌, Bool, true, false, cond, ◌&&◌, List, [], ◌∷◌, length, take, drop, ℤ, pos, ◌-ℤ◌, Some, None, Ok, Err, sum_by, Option, Result, ◌==◌, nat_le, nat_lt, slice_index_or, refl}
-use Rattle.std.specs.List.{flat_map, prefix_len}
+use Rattle.std.specs.Prelude.{◌≡◌, ℕ, ◌+◌, ◌-◌, ◌*◌, Bool, true, false, cond, not, ◌&&◌, List, [], ◌∷◌, length, take, drop, ℤ, pos, ◌-ℤ◌, Some, None, Ok, Err, sum_by, Option, Result, ◌==◌, nat_le, nat_lt, slice_index_or, refl}
+use Rattle.std.specs.List.{flat_map, position}
 use Rattle.std.specs.Option.{option_to_list}
 use Rattle.std.proofs.lemmas.Bool.{and_parts, leb-true}
 use Rattle.gas.specs.declared.day.DayKind.{DayKind}
@@ -44,13 +44,14 @@ abbrev pub keeps_authority : (DayRecord → ℕ) → Option DayRecord → Bool
 keeps_authority unauthorized None = true
 keeps_authority unauthorized (Some day) = unauthorized day == 0
 
--- the place of the gas year's first unauthorized day by date, or how many places there are if no posted day is one
-abbrev pub place_of_first : (DayRecord → ℕ) → Places → ℕ
-place_of_first unauthorized days = prefix_len (keeps_authority unauthorized) days
+-- the place of the gas year's first unauthorized day by date, if a posted day is one
+abbrev pub place_of_first : (DayRecord → ℕ) → Places → Option ℕ
+place_of_first unauthorized days = position (λ place. not (keeps_authority unauthorized place)) days
 
--- the number of the day at a place in a month, or 0 if it is no day of that month
-abbrev pub day_of_first : Bool → ℕ → ℕ → ℕ
-day_of_first leap place month = cond (nat_le (31 * month) place && nat_lt place (31 * month + month_length leap month)) (place - 31 * month + 1) 0
+-- the number, in a month, of the day at a place, if it is a day of that month
+abbrev pub day_of_first : Bool → Option ℕ → ℕ → Option ℕ
+day_of_first leap None month = None
+day_of_first leap (Some place) month = cond (nat_le (31 * month) place && nat_lt place (31 * month + month_length leap month)) (Some (place - 31 * month + 1)) None
 
 -- the lawful day of numbers that are within their limits
 abbrev pub kind_of : ℕ → DayKind

@@ -2,8 +2,9 @@
 -- Words:
 -- a history, the calls so far with their answers, the newest first
 -- a run, what a new account has become by a history
-use Rattle.std.specs.Prelude.{◌≡◌, ℕ, ◌<◌, cond, List, [], ◌∷◌, length, ℤ, pos, ◌+ℤ◌, Some, None, Ok, Err, Option, Result, ◌==◌}
+use Rattle.std.specs.Prelude.{◌≡◌, ℕ, ◌<◌, cond, List, [], ◌∷◌, length, ℤ, pos, ◌+ℤ◌, Some, None, Ok, Option, ◌==◌}
 use Rattle.std.specs.Int.{int_min}
+use Rattle.std.specs.Result.{result_err, result_unwrap_or}
 use Rattle.gas.specs.declared.items.Item.{Item}
 use Rattle.gas.specs.declared.items.Item.TheVariants.{MonthlyBalancing}
 use Rattle.gas.specs.Items.{item_number}
@@ -38,18 +39,9 @@ known (e ∷ h) = noted e.refusal e.call (known h)
 abbrev pub new_state : State
 new_state = record { year = unknown_year; lines = [] }
 
-abbrev pub refusal_of : Result State AccountFault → Option AccountFault
-refusal_of (Ok b) = None
-refusal_of (Err f) = Some f
-
--- a refused call leaves the account as it was
-abbrev pub state_after : State → Result State AccountFault → State
-state_after a (Ok b) = b
-state_after a (Err f) = a
-
--- a call that found the account a, answered as the entry says and left b: the answer and b are those of its outcome
+-- a call that found the account a, answered as the entry says and left b: the answer and b are those of its outcome, and a refused call leaves the account as it was
 abbrev pub Step : Tariff → State → Entry → State → Type 0
-Step s a e b = (e.refusal ≡ refusal_of (outcome s e.call a)) × (b ≡ state_after a (outcome s e.call a))
+Step s a e b = (e.refusal ≡ result_err (outcome s e.call a)) × (b ≡ result_unwrap_or (outcome s e.call a) a)
 
 -- each call found what the one before left
 abbrev pub Run : Tariff → History → State → Type 0

@@ -1,6 +1,7 @@
 -- The year as it is known from the calls that were accepted.
 use Rattle.std.specs.Prelude.{ℕ, ◌+◌, ◌-◌, Bool, true, false, ◌&&◌, List, [], length, replicate, None, nat_le}
 use Rattle.std.specs.List.{range_with_len}
+use Rattle.gas.specs.declared.month.ClosingNumbers.{ClosingNumbers}
 use Rattle.history.specs.Days.{Places}
 
 -- what the opening says of the interim rate: the increase, per mille, and the first and the last interim month
@@ -19,10 +20,6 @@ pub data Standing : Type 0 where
   not_opened : Standing
   running : Opening → Standing
   settled : Opening → Settlement → Standing
-
--- index, interruptible and firm transport
-abbrev pub ClosingNumbers : Type 0
-ClosingNumbers = ℕ × ℕ × ℕ
 
 -- the standing, whether it is a leap year, the days, and the numbers that closed the months so far, from November on
 pub record Year : Type 0 where

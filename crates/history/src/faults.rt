@@ -5,7 +5,7 @@ ghost use Rattle.history.specs.declared.faults.AccountFault.TheVariants.{Input, 
 
 use gas::{InputFault, ScheduleFault};
 
-#[derive(Clone, Copy)]
+#[derive(Clone, Copy, Debug, PartialEq, Eq)]
 pub enum AccountFault {
     Input(InputFault),
     Payment,

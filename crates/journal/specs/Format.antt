@@ -4,7 +4,7 @@
 -- `widths`, the layout of a kind's body: how many bytes each of its numbers has, in order
 -- `fields_of`, a record's numbers in the order of its bytes
 -- `record_bytes`, its bytes
-use Rattle.std.specs.Prelude.{ℕ, cond, List, [], ◌∷◌, length, ◌==◌}
+use Rattle.std.specs.Prelude.{ℕ, if◌then◌else◌, List, [], ◌∷◌, length, ◌==◌}
 use Rattle.journal.specs.Numbers.{row_bytes}
 use Rattle.journal.specs.declared.kinds.Day.{Day}
 use Rattle.journal.specs.declared.kinds.Record.{Record}
@@ -42,8 +42,13 @@ settle_widths = 2 ∷ 2 ∷ []
 -- the layout of the body under each kind byte; no other byte is a kind
 abbrev pub widths : ℕ → List ℕ
 widths k =
-    cond (k == 1) open_widths
-    (cond (k == 2) day_widths (cond (k == 3) day_widths (cond (k == 4) close_widths (cond (k == 5) pay_widths (cond (k == 6) settle_widths [])))))
+    if k == 1 then open_widths
+    else if k == 2 then day_widths
+    else if k == 3 then day_widths
+    else if k == 4 then close_widths
+    else if k == 5 then pay_widths
+    else if k == 6 then settle_widths
+    else []
 
 -- a day's numbers in the order of its bytes
 abbrev pub day_fields : Day → List ℕ

@@ -4,7 +4,7 @@
 -- `read_front`, what a list of bytes begins with
 -- `answer` and `after`, what a reader at a place answers, and where it then stands
 -- `Gives`, what a reader gives of the whole rest of a journal
-use Rattle.std.specs.Prelude.{◌≡◌, ℕ, ◌+◌, Bool, cond, ◌&&◌, List, [], ◌∷◌, length, drop, Some, None, Ok, Err, Option, Result, ◌==◌, nat_le, slice_index}
+use Rattle.std.specs.Prelude.{◌≡◌, ℕ, ◌+◌, Bool, if◌then◌else◌, ◌&&◌, List, [], ◌∷◌, length, drop, Some, None, Ok, Err, Option, Result, ◌==◌, nat_le, slice_index}
 use Rattle.journal.specs.declared.faults.ReadFault.{ReadFault}
 use Rattle.journal.specs.declared.faults.ReadFault.TheVariants.{UnknownKind, CutShort}
 use Rattle.journal.specs.declared.kinds.Day.{Day}
@@ -36,15 +36,16 @@ day_of ns = record {
 -- the record of one of the six kinds whose numbers are given in the order of its bytes; it is asked of no other kind
 abbrev pub record_of_kind : ℕ → List ℕ → Record
 record_of_kind k ns =
-    cond (k == 1) (Open (slice_index ns 0) (slice_index ns 1) (slice_index ns 2) (slice_index ns 3))
-    (cond (k == 2) (Post (day_of ns))
-    (cond (k == 3) (Correct (day_of ns))
-    (cond (k == 4) (Close (slice_index ns 0) (slice_index ns 1) (slice_index ns 2) (slice_index ns 3))
-    (cond (k == 5) (Pay (slice_index ns 0)) (Settle (slice_index ns 0) (slice_index ns 1))))))
+    if k == 1 then Open (slice_index ns 0) (slice_index ns 1) (slice_index ns 2) (slice_index ns 3)
+    else if k == 2 then Post (day_of ns)
+    else if k == 3 then Correct (day_of ns)
+    else if k == 4 then Close (slice_index ns 0) (slice_index ns 1) (slice_index ns 2) (slice_index ns 3)
+    else if k == 5 then Pay (slice_index ns 0)
+    else Settle (slice_index ns 0) (slice_index ns 1)
 
 -- cut short where fewer bytes are left than the row of numbers takes, else what is made of the numbers
 abbrev pub read_row : {A : Type 0} → List ℕ → (List ℕ → A) → List ℕ → Result A ReadFault
-read_row ws make rest = cond (nat_le (row_length ws) (length rest)) (Ok (make (row_at ws rest 0))) (Err CutShort)
+read_row ws make rest = if nat_le (row_length ws) (length rest) then Ok (make (row_at ws rest 0)) else Err CutShort
 
 -- the day that post and correct carry
 abbrev pub read_day : List ℕ → Result Day ReadFault
@@ -56,7 +57,7 @@ read_body k rest = read_row (widths k) (record_of_kind k) rest
 
 -- an unknown kind is refused as such, however short the rest
 abbrev pub read_record : ℕ → List ℕ → Result Record ReadFault
-read_record k rest = cond (is_kind k) (read_body k rest) (Err UnknownKind)
+read_record k rest = if is_kind k then read_body k rest else Err UnknownKind
 
 -- what was read is a record, and not the end
 abbrev pub as_record : Result Record ReadFault → Result (Option Record) ReadFault

@@ -1,5 +1,5 @@
 -- What writing a record answers, and what it leaves in the caller's buffer.
-use Rattle.std.specs.Prelude.{ℕ, Bool, cond, List, ◌++◌, length, drop, Ok, Err, Result, nat_le}
+use Rattle.std.specs.Prelude.{ℕ, Bool, if◌then◌else◌, List, ◌++◌, length, drop, Ok, Err, Result, nat_le}
 use Rattle.journal.specs.declared.faults.WriteFault.{WriteFault}
 use Rattle.journal.specs.declared.faults.WriteFault.TheVariants.{BufferTooShort}
 use Rattle.journal.specs.declared.kinds.Record.{Record}
@@ -11,11 +11,11 @@ has_room bs buffer = nat_le (length bs) (length buffer)
 
 -- how many bytes were put, or a refusal where the buffer is too short
 abbrev pub put_answer : List ℕ → List ℕ → Result ℕ WriteFault
-put_answer bs buffer = cond (has_room bs buffer) (Ok (length bs)) (Err BufferTooShort)
+put_answer bs buffer = if has_room bs buffer then Ok (length bs) else Err BufferTooShort
 
 -- the bytes in front of what stood behind them; the whole buffer as it was after a refusal
 abbrev pub buffer_with : List ℕ → List ℕ → List ℕ
-buffer_with bs buffer = cond (has_room bs buffer) (bs ++ drop (length bs) buffer) buffer
+buffer_with bs buffer = if has_room bs buffer then bs ++ drop (length bs) buffer else buffer
 
 -- the record's length, or the refusal
 abbrev pub write_answer : Record → List ℕ → Result ℕ WriteFault

@@ -125,6 +125,7 @@ fn record_of(kind: u8, body: &[u8]) -> Result<Record, ReadFault>
 }
 
 // What the bytes begin with, or none where there is no byte.
+#[tactic(auto, using(crate::proofs::RoundTrips::begins))]
 pub fn front(bytes: &[u8]) -> Result<Option<Record>, ReadFault>
     ensures reads { result ≡ read_front bytes.now }
     ensures begins { BeginsWith bytes.now result }

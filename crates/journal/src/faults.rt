@@ -4,32 +4,27 @@ ghost use Rattle.journal.specs.Faults.{read_number, write_number};
 
 #[derive(Clone, Copy, Debug, PartialEq, Eq)]
 pub enum ReadFault {
-    UnknownKind,
-    CutShort,
+    UnknownKind = 1,
+    CutShort = 2,
 }
 
 impl ReadFault {
     pub fn number(self) -> u8
         ensures { result ≡ read_number self }
     {
-        match self {
-            ReadFault::UnknownKind => 1,
-            ReadFault::CutShort => 2,
-        }
+        self as u8
     }
 }
 
 #[derive(Clone, Copy, Debug, PartialEq, Eq)]
 pub enum WriteFault {
-    BufferTooShort,
+    BufferTooShort = 10,
 }
 
 impl WriteFault {
     pub fn number(self) -> u8
         ensures { result ≡ write_number self }
     {
-        match self {
-            WriteFault::BufferTooShort => 10,
-        }
+        self as u8
     }
 }

@@ -1,5 +1,6 @@
 // A whole journal from a stream.
-ghost use Rattle.std.specs.Prelude.{◌≡◌, ◌≤◌, IfSome, IfOk, if◌then◌else◌, Some, None, vec_len, nat_le};
+ghost use Rattle.std.specs.Prelude.{◌≤◌, IfSome, IfOk, SomeIff, length, vec_len, vec_items};
+ghost use Rattle.std.specs.Option.{option_map};
 
 use std::alloc::Global;
 use std::io;
@@ -10,18 +11,17 @@ const MOST_BYTES: usize = 65_536;
 
 // The bytes, or none where they are more than a program takes.
 fn not_too_long(bytes: Vec<u8>) -> Option<Vec<u8>>
-    ensures { result ≡ (if nat_le (vec_len bytes) 65536 then Some bytes else None) }
+    ensures { SomeIff result (vec_len bytes ≤ 65536) bytes }
 {
-    if bytes.len() > MOST_BYTES {
-        None
-    } else {
-        Some(bytes)
-    }
+    (bytes.len() <= MOST_BYTES).then_some(bytes)
 }
 
 // All that the stream holds, or none where it holds more than a program takes. Of a longer stream no more than one byte too many is read.
-pub fn load(heap: Global, input: impl Read + Drop) -> io::Result<Option<Vec<u8>>>
-    ensures { IfOk result (λ o. IfSome o (λ bytes. vec_len bytes ≤ 65536)) }
+pub fn load<R: Read + Drop>(heap: Global, input: R) -> io::Result<Option<Vec<u8>>>
+    ensures within { IfOk result (λ o. IfSome o (λ bytes. vec_len bytes ≤ 65536)) }
+
+    // Where the stream's bytes are known, as those of a slice are.
+    ensures whole { IfSome (R.remaining input) (λ all. IfOk result (λ o. SomeIff (option_map vec_items o) (length all ≤ 65536) all)) }
 {
     let mut bytes = Vec::new(heap);
     input.take(MOST_BYTES as u64 + 1).read_to_end(&mut bytes)?;

@@ -10,16 +10,13 @@ use super::faults::WriteFault;
 use super::kinds::{Day, Record};
 
 // The bytes at the start of the buffer, or a refusal where they have no room.
-fn put(buffer: &mut [u8], bytes: &[u8]) -> Result<usize, WriteFault>
+fn put<const N: usize>(buffer: &mut [u8], bytes: &[u8; N]) -> Result<usize, WriteFault>
     ensures answers { result ≡ put_answer bytes.now buffer.old }
     ensures leaves { buffer.new ≡ buffer_with bytes.now buffer.old }
 {
-    let count = bytes.len();
-    if buffer.len() < count {
-        return Err(WriteFault::BufferTooShort);
-    }
-    buffer[0..count].copy_from_slice(bytes);
-    Ok(count)
+    let room = buffer.first_chunk_mut().ok_or(WriteFault::BufferTooShort)?;
+    *room = *bytes;
+    Ok(N)
 }
 
 // The bytes of a record of the kind that carries a day.

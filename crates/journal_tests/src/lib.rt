@@ -62,6 +62,15 @@ mod tests {
 
     const SETTLE_BYTES: &[u8] = b"\x06\x64\x00\x02\x01";
 
+    const KINDS: [(Record, &[u8]); 6] = [
+        (OPEN, OPEN_BYTES),
+        (POST, POST_BYTES),
+        (CORRECT, CORRECT_BYTES),
+        (CLOSE, CLOSE_BYTES),
+        (PAY, PAY_BYTES),
+        (SETTLE, SETTLE_BYTES),
+    ];
+
     // Cut at every length the bytes are refused and the reader stays; whole they give the record, and then the end.
     fn reads(rt: &impl Abort, record: Record, bytes: &[u8]) {
         for n in 1..bytes.len() {
@@ -77,12 +86,9 @@ mod tests {
 
     #[test]
     fn every_kind_is_read_whole_and_refused_at_every_cut(rt: HostRuntime) {
-        reads(&rt, OPEN, OPEN_BYTES);
-        reads(&rt, POST, POST_BYTES);
-        reads(&rt, CORRECT, CORRECT_BYTES);
-        reads(&rt, CLOSE, CLOSE_BYTES);
-        reads(&rt, PAY, PAY_BYTES);
-        reads(&rt, SETTLE, SETTLE_BYTES);
+        for (record, bytes) in KINDS {
+            reads(&rt, record, bytes);
+        }
     }
 
     // In a buffer of every length up to 40 the record is written just where it fits, and nothing behind it or after a refusal changes.
@@ -105,12 +111,9 @@ mod tests {
 
     #[test]
     fn every_kind_is_written_where_it_fits(rt: HostRuntime) {
-        writes(&rt, OPEN, OPEN_BYTES);
-        writes(&rt, POST, POST_BYTES);
-        writes(&rt, CORRECT, CORRECT_BYTES);
-        writes(&rt, CLOSE, CLOSE_BYTES);
-        writes(&rt, PAY, PAY_BYTES);
-        writes(&rt, SETTLE, SETTLE_BYTES);
+        for (record, bytes) in KINDS {
+            writes(&rt, record, bytes);
+        }
     }
 
     #[test]

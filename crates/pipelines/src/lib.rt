@@ -3,6 +3,7 @@
 
 mod balancing;
 mod faults;
+mod gap;
 mod northern;
 mod terms;
 mod tolerance;

@@ -15,7 +15,7 @@ pub struct MonthTerms {
 }
 
 // The numbers of a tolerance pipeline, lawful or not: the percentages that a day and a month may be out of balance, those of the index at which use beyond receipts is bought and receipts beyond use are sold, and the rate of a day beyond its tolerance.
-#[derive(Clone, Copy)]
+#[derive(Clone, Copy, Debug, PartialEq, Eq)]
 pub struct ToleranceNumbers {
     pub day: u8,
     pub month: u8,

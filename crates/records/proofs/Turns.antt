@@ -1,31 +1,38 @@
 -- What the listing's loop keeps from record to record.
-use Rattle.std.proofs.Common.{◌≡◌, ℕ, ◌+◌, ◌≤◌, List, [], ◌∷◌, ◌++◌, Some, None, Ok, Err, codes, Option, sym, ap, ◌∙◌, subst, append_assoc, append-nil, arith}
+use Rattle.std.proofs.Common.{◌≡◌, ℕ, ◌+◌, ◌≤◌, List, [], ◌∷◌, ◌++◌, length, Some, None, Ok, Err, codes, Option, sym, ap, ◌∙◌, subst, append_assoc, append-nil, arith}
 use Rattle.journal.specs.declared.faults.ReadFault.{ReadFault}
 use Rattle.journal.specs.declared.kinds.Placed.{Placed}
 use Rattle.journal.specs.Reading.{answer, after, Gives}
-use Rattle.journal.proofs.Steps.{moves_on}
+use Rattle.journal.proofs.RoundTrips.{moves_on}
 use Rattle.records.specs.Rows.{row_text, refusal_text, listing_text, Lists}
 
--- the text lists the journal up to place i, k - 1 records: with what the reader gives from there on it lists the whole
-pub record Sofar (bs text : List ℕ) (i k : ℕ) : Type 0 where
-  pub few : k ≤ i + 1
-  pub rest : (ps : List Placed) (end : Option ReadFault) → Gives bs i ps end → Lists bs (text ++ listing_text k ps end)
+-- the text lists the journal up to place i, k - 1 records: with what a reader of the bytes rs gives from there on it lists the whole
+unfoldable pub Sofar : List ℕ → List ℕ → List ℕ → ℕ → ℕ → Type 0
+Sofar bs rs text i k =
+    (rs ≡ bs) × (k ≤ i + 1) × ((ps : List Placed) (end : Option ReadFault) → Gives rs i ps end → Lists bs (text ++ listing_text k ps end))
 
-pub start : (bs text : List ℕ) → text ≡ [] → Sofar bs text 0 1
-start bs text e = record { few = omega arith; rest = λ ps end h. (ps, end, h, ap (λ (t : List ℕ). t ++ listing_text 1 ps end) e) }
+pub start : (bs rs text : List ℕ) (i k : ℕ) → rs ≡ bs → text ≡ [] → i ≡ 0 → k ≡ 1 → Sofar bs rs text i k
+unfolding Sofar
+start bs rs text i k same none first one =
+    (same, omega arith, λ ps end h. (ps, end, subst (λ (b : List ℕ). Gives b 0 ps end) same (subst (λ (n : ℕ). Gives rs n ps end) first h), rw (none, one)))
 
-module _ (bs text : List ℕ) (i k : ℕ) (s : Sofar bs text i k) where
-  pub ended : answer bs i ≡ Ok None → Lists bs text
-  ended e = subst (Lists bs) (append-nil text) (s.rest [] None e)
+module _ (bs rs text : List ℕ) (i k : ℕ) where
+  pub few : Sofar bs rs text i k → i ≤ length rs → k ≤ length bs + 1
+  unfolding Sofar
+  few s h = let same = ap length s.0 in omega (arith, s.1)
 
-  pub refused : (f : ReadFault) (more : List ℕ) → answer bs i ≡ Err f → more ≡ text ++ (refusal_text k f ++ codes "\n") → Lists bs more
-  refused f more e m = subst (Lists bs) (sym m) (s.rest [] (Some f) e)
+  pub ended : Sofar bs rs text i k → Ok None ≡ answer rs i → Lists bs text
+  unfolding Sofar
+  ended s e = subst (Lists bs) (append-nil text) (s.2 [] None (sym e))
 
-  pub one_more : (p : Placed) (more : List ℕ) (j : ℕ) → answer bs i ≡ Ok (Some p) → more ≡ text ++ (row_text k p ++ codes "\n") → j ≡ after bs i → Sofar bs more j (k + 1)
-  one_more p more j e m on = record {
-    few = omega (arith, s.few, moves_on bs i p e);
-    rest = λ ps end h. subst (Lists bs) (joins (listing_text (k + 1) ps end)) (s.rest (p ∷ ps) end (e, subst (λ (n : ℕ). Gives bs n ps end) on h));
-  }
+  pub refused : (more : List ℕ) (n : ℕ) (f : ReadFault) → Sofar bs rs text i k → Err f ≡ answer rs i → n ≡ k → more ≡ text ++ (refusal_text n f ++ codes "\n") → Lists bs more
+  unfolding Sofar
+  refused more n f s e this m = rw (m, this) (s.2 [] (Some f) (sym e))
+
+  pub one_more : (more rs' : List ℕ) (j l : ℕ) (p : Placed) → Sofar bs rs text i k → answer rs i ≡ Ok (Some p) → more ≡ text ++ (row_text k p ++ codes "\n") → rs' ≡ rs → j ≡ after rs i → l ≡ k + 1 → Sofar bs rs' more j l
+  unfolding Sofar
+  one_more more rs' j l p s e m same on next =
+      (same ∙ s.0, omega (arith, moves_on rs i p e), λ ps end h. rw (m, next) (subst (Lists bs) (joins (listing_text (k + 1) ps end)) (s.2 (p ∷ ps) end (e, subst (λ (n : ℕ). Gives rs n ps end) on (subst (λ (b : List ℕ). Gives b j ps end) same h)))))
     where
-      joins : (l : List ℕ) → text ++ (row_text k p ++ (codes "\n" ++ l)) ≡ more ++ l
-      joins l = sym (ap (λ (t : List ℕ). t ++ l) m ∙ append_assoc text (row_text k p ++ codes "\n") l ∙ ap (λ (t : List ℕ). text ++ t) (append_assoc (row_text k p) (codes "\n") l))
+      joins : (l : List ℕ) → text ++ (row_text k p ++ (codes "\n" ++ l)) ≡ (text ++ (row_text k p ++ codes "\n")) ++ l
+      joins l = simp append_assoc

@@ -9,27 +9,23 @@ use std::alloc::Global;
 use std::fmt;
 
 // A row for each record, and a last one where reading is refused.
+#[tactic(auto, using(crate::proofs::Turns::start, crate::proofs::Turns::one_more))]
 fn list(heap: Global, journal: &[u8]) -> Result<String, fmt::Error>
     ensures { IfOk result (λ text. Lists journal.now (string_bytes text)) }
 {
     let mut text = String::new(heap);
     let mut reader = Reader::new(journal);
-    let mut number = 1;
-    loop {
+    for number in 1.. {
         match reader.next() {
-            Ok(Some(placed)) => {
-                let row = Row { number, placed };
-                writeln!(text, "{row}")?;
-                number += 1;
-            }
-            Ok(None) => return Ok(text),
+            Ok(Some(placed)) => writeln!(text, "{}", Row { number, placed })?,
+            Ok(None) => break,
             Err(fault) => {
-                let refusal = Refusal { number, fault };
-                writeln!(text, "{refusal}")?;
-                return Ok(text);
+                writeln!(text, "{}", Refusal { number, fault })?;
+                break;
             }
         }
     }
+    Ok(text)
 }
 
 // All that the program writes of a journal, or of an input that was too long to be one.
@@ -41,5 +37,5 @@ pub fn output(heap: Global, journal: Option<Vec<u8>>) -> Result<String, fmt::Err
         writeln!(text, "too long")?;
         return Ok(text);
     };
-    list(heap, bytes.as_slice())
+    list(heap, &bytes)
 }

@@ -28,15 +28,9 @@ impl fmt::Display for Named {
         } = self.0;
         write!(
             f,
-            " month {month} day {day} kind {kind} curtailed {curtailed}"
-        )?;
-        write!(
-            f,
-            " nomination {nomination} receipts {receipts} reading {reading}"
-        )?;
-        write!(
-            f,
-            " after_notice {after_notice} supply_cost {supply_cost} variance_rate {variance_rate}"
+            " month {month} day {day} kind {kind} curtailed {curtailed} \
+             nomination {nomination} receipts {receipts} reading {reading} \
+             after_notice {after_notice} supply_cost {supply_cost} variance_rate {variance_rate}"
         )
     }
 }
@@ -59,14 +53,8 @@ impl fmt::Display for Described {
                 f,
                 "open leap {leap} increase {increase} first {first} last {last}"
             ),
-            Record::Post { day } => {
-                let fields = Named(day);
-                write!(f, "post{fields}")
-            }
-            Record::Correct { day } => {
-                let fields = Named(day);
-                write!(f, "correct{fields}")
-            }
+            Record::Post { day } => write!(f, "post{}", Named(day)),
+            Record::Correct { day } => write!(f, "correct{}", Named(day)),
             Record::Close {
                 month,
                 index,
@@ -99,10 +87,8 @@ impl fmt::Display for Row {
     ghost output = { λ r. Some (row_text r.number r.placed) };
 
     fn fmt<W: fmt::Write>(&self, f: &mut fmt::Formatter<W>) -> fmt::Result {
-        let number = self.number;
-        let place = self.placed.place;
-        let record = Described(self.placed.record);
-        write!(f, "{number} {place} {record}")
+        let Placed { place, record } = self.placed;
+        write!(f, "{} {place} {}", self.number, Described(record))
     }
 }
 
@@ -117,8 +103,6 @@ impl fmt::Display for Refusal {
     ghost output = { λ r. Some (refusal_text r.number r.fault) };
 
     fn fmt<W: fmt::Write>(&self, f: &mut fmt::Formatter<W>) -> fmt::Result {
-        let number = self.number;
-        let fault = self.fault.number();
-        write!(f, "refused {number} {fault}")
+        write!(f, "refused {} {}", self.number, self.fault.number())
     }
 }

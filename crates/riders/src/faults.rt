@@ -4,15 +4,13 @@ ghost use Rattle.riders.specs.Faults.{rider_number};
 
 #[derive(Clone, Copy, Debug, PartialEq, Eq)]
 pub enum RiderFault {
-    GasYear,
+    GasYear = 11,
 }
 
 impl RiderFault {
     pub fn number(self) -> u8
         ensures { result ≡ rider_number self }
     {
-        match self {
-            RiderFault::GasYear => 11,
-        }
+        self as u8
     }
 }

@@ -2,13 +2,14 @@
 #![tactic(auto)]
 
 mod affordability;
-mod charges;
 mod faults;
 mod franchise;
 mod interim;
 mod rates;
+mod rider;
 mod spans;
 mod weather;
+mod with_rider;
 mod worked;
 
 pub use affordability::Affordability;
@@ -16,6 +17,8 @@ pub use faults::RiderFault;
 pub use franchise::Franchise;
 pub use interim::Interim;
 pub use rates::weather_rate;
+pub use rider::Rider;
 pub use spans::GasYear;
 pub use weather::Weather;
+pub use with_rider::WithRider;
 pub use worked::weather_months;

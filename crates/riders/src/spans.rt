@@ -1,10 +1,17 @@
 // Dates, spans of them, and the gas years that have weather rates.
-ghost use Rattle.std.specs.Prelude.{◌≤◌};
+ghost use Rattle.std.specs.Prelude.{◌≡◌, ◌≤◌};
+ghost use Rattle.gas.specs.Inputs.{read};
+ghost use Rattle.riders.specs.Weather.{between, checked_year, gas_month};
 
-use gas::Rate;
+use crate::faults::RiderFault;
+use gas::{Month, Rate};
+
+const FIRST_YEAR: u16 = 2020;
+
+const LAST_YEAR: u16 = 2026;
 
 // A calendar month, 1 for January to 12.
-#[derive(Clone, Copy)]
+#[derive(Clone, Copy, PartialEq, Eq, PartialOrd, Ord)]
 pub struct Date {
     pub year: u16,
     pub month: u8,
@@ -18,10 +25,51 @@ pub struct Span {
     pub rate: Rate,
 }
 
+impl Span {
+    pub fn holds(&self, date: Date) -> bool
+        ensures { result ≡ between self.now.first self.now.last date }
+    {
+        (self.first..=self.last).contains(&date)
+    }
+}
+
 // A gas year, by the year in whose November it starts.
 #[derive(Clone, Copy)]
 pub struct GasYear {
     pub start: u16,
     ghost least: { 2020 ≤ start },
     ghost most: { start ≤ 2026 },
+}
+
+// Refused unless it starts in November of 2020 to 2026.
+impl TryFrom<u16> for GasYear {
+    type Error = RiderFault;
+
+    ghost try_from_gives = { λ start made. read (λ y. y.start) made ≡ checked_year start };
+
+    fn try_from(start: u16) -> Result<GasYear, RiderFault> {
+        if !(FIRST_YEAR..=LAST_YEAR).contains(&start) {
+            return Err(RiderFault::GasYear);
+        }
+        Ok(GasYear { start })
+    }
+}
+
+impl GasYear {
+    // A month of the gas year as a date.
+    pub(crate) fn date(self, month: Month) -> Date
+        ensures { result ≡ gas_month self.start month.number }
+    {
+        if month.number < 2 {
+            Date {
+                year: self.start,
+                month: 11 + month.number,
+            }
+        } else {
+            Date {
+                year: self.start + 1,
+                month: month.number - 1,
+            }
+        }
+    }
 }

@@ -4,15 +4,13 @@ ghost use Rattle.tariff.specs.Faults.{class_number};
 
 #[derive(Clone, Copy, Debug, PartialEq, Eq)]
 pub enum ClassFault {
-    BaseLevel,
+    BaseLevel = 7,
 }
 
 impl ClassFault {
     pub fn number(self) -> u8
         ensures { result ≡ class_number self }
     {
-        match self {
-            ClassFault::BaseLevel => 7,
-        }
+        self as u8
     }
 }

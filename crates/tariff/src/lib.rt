@@ -9,7 +9,7 @@ mod sums;
 mod worked;
 
 pub use class::{Class, RateClass};
-pub use classes::{LargeDualFuel, SmallDualFuel};
+pub use classes::{Charges, DualFuel, LargeDualFuel, SmallDualFuel};
 pub use faults::ClassFault;
 pub use firm::FirmInterruptible;
 pub use worked::worked_edges;

@@ -4,7 +4,8 @@ ghost use Rattle.tariff.specs.Worked.{EdgesAsExpected, edges};
 
 // How many days, months and unauthorized uses at the edges of the rules come to what was expected.
 pub fn worked_edges() -> u8
-    ensures { (result ≡ length edges) × EdgesAsExpected }
+    ensures count { result ≡ length edges }
+    ensures expected { EdgesAsExpected }
 {
     9
 }

@@ -1,0 +1,38 @@
+// The places of a gas year's days: 31 for each month, in the order of dates.
+ghost use Rattle.std.specs.Prelude.{◌≡◌, ◌+◌, ◌*◌, ◌<◌, ◌≤◌};
+ghost use Rattle.gas.specs.Calendar.{month_length};
+ghost use Rattle.history.specs.Days.{place_of};
+
+use gas::Month;
+use std::ops::Range;
+
+const PLACES_A_MONTH: usize = 31;
+
+// A place of the year.
+#[derive(Clone, Copy, Debug, PartialEq, Eq)]
+pub struct Place {
+    pub index: usize,
+    ghost within: { index < 372 },
+}
+
+impl Place {
+    // The place of a day of a month; days are counted from 1.
+    pub fn of(month: Month, day: u8) -> Place
+        requires first { 1 ≤ day }
+        requires last { day ≤ 31 }
+        ensures { result.index ≡ place_of month.number day }
+    {
+        Place {
+            index: PLACES_A_MONTH * month.number as usize + day as usize - 1,
+        }
+    }
+}
+
+// The places of a month's days.
+pub fn places_of(month: Month, leap: bool) -> Range<usize>
+    ensures start { result.start ≡ 31 * month.number }
+    ensures end { result.end ≡ 31 * month.number + month_length leap month.number }
+{
+    let from = PLACES_A_MONTH * month.number as usize;
+    from..from + month.length(leap) as usize
+}
