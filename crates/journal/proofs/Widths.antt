@@ -1,10 +1,52 @@
--- Rows of numbers in bytes: writing by some widths what was read by them.
-use Rattle.std.proofs.Common.{◌≡◌, ℕ, zero, suc, ◌+◌, ◌*◌, ◌/◌, ◌%◌, ◌<◌, ◌≤◌, List, [], ◌∷◌, ◌++◌, length, get_or, take, drop, sym, refl, ap, ◌∙◌, ap₂, arith, drop-cons, drop-drop, take-add}
-use Rattle.journal.specs.Numbers.{number_at, row_at, low_bytes, row_bytes, row_length}
+-- Rows of numbers in bytes: what is written by some widths is read by them, and the other way round.
+use Rattle.std.proofs.Common.{◌≡◌, ℕ, zero, suc, ◌+◌, ◌*◌, ◌/◌, ◌%◌, ◌<◌, ◌≤◌, List, [], ◌∷◌, ◌++◌, length, get_or, take, drop, sym, refl, ap, ◌∙◌, ap₂, append_assoc, add_assoc, add-suc, arith, length-append, drop-cons, drop-drop, get_or-append-add, take-add}
+use Rattle.journal.specs.Numbers.{number_at, row_at, low_bytes, row_bytes, row_length, limit, Fit}
 
 -- every place of the list holds a byte
 abbrev pub Bytes : List ℕ → Type 0
 Bytes bs = (i : ℕ) → get_or bs i 0 < 256
+
+length_low : (w n : ℕ) → length (low_bytes w n) ≡ w
+length_low zero n = refl
+length_low (suc w) n = ap suc (length_low w (n / 256))
+
+pub length_bytes : (ws ns : List ℕ) → Fit ws ns → length (row_bytes ws ns) ≡ row_length ws
+length_bytes [] [] f = refl
+length_bytes [] (n ∷ ns) f = absurd f
+length_bytes (w ∷ ws) [] f = absurd f
+length_bytes (w ∷ ws) (n ∷ ns) f =
+    length-append (low_bytes w n) (row_bytes ws ns) ∙ ap₂ ◌+◌ (length_low w n) (length_bytes ws ns f.1)
+
+number_behind : (xs ys : List ℕ) (i w : ℕ) → number_at (xs ++ ys) (length xs + i) w ≡ number_at ys i w
+number_behind xs ys i zero = refl
+number_behind xs ys i (suc w) =
+    ap₂ (λ (b n : ℕ). b + 256 * n) (get_or-append-add xs ys i 0)
+    (ap (λ (k : ℕ). number_at (xs ++ ys) k w) (sym (add-suc (length xs) i)) ∙ number_behind xs ys (suc i) w)
+
+numbers_behind : (ws xs ys : List ℕ) (i : ℕ) → row_at ws (xs ++ ys) (length xs + i) ≡ row_at ws ys i
+numbers_behind [] xs ys i = refl
+numbers_behind (w ∷ ws) xs ys i =
+    ap₂ ◌∷◌ (number_behind xs ys i w)
+    (ap (row_at ws (xs ++ ys)) (add_assoc (length xs) i w) ∙ numbers_behind ws xs ys (i + w))
+
+number_low : (w n : ℕ) (rest : List ℕ) → n < limit w → number_at (low_bytes w n ++ rest) 0 w ≡ n
+number_low zero n rest h = omega arith
+number_low (suc w) n rest h =
+    let more = number_behind ((n % 256) ∷ []) (low_bytes w (n / 256) ++ rest) 0 w in
+    let back = number_low w (n / 256) rest (omega arith) in
+    omega (arith, more ∙ back)
+
+-- reading by the widths gives back what was written by them, whatever stands behind it
+pub numbers_bytes : (ws ns rest : List ℕ) → Fit ws ns → row_at ws (row_bytes ws ns ++ rest) 0 ≡ ns
+numbers_bytes [] [] rest f = refl
+numbers_bytes [] (n ∷ ns) rest f = absurd f
+numbers_bytes (w ∷ ws) [] rest f = absurd f
+numbers_bytes (w ∷ ws) (n ∷ ns) rest f =
+    let tail = row_bytes ws ns ++ rest in
+    let place : 0 + w ≡ length (low_bytes w n) + 0 = omega (arith, length_low w n) in
+    ap (λ (l : List ℕ). row_at (w ∷ ws) l 0) (append_assoc (low_bytes w n) (row_bytes ws ns) rest) ∙
+    ap₂ ◌∷◌ (number_low w n tail f.0)
+    (ap (row_at ws (low_bytes w n ++ tail)) place ∙ numbers_behind ws (low_bytes w n) tail 0 ∙ numbers_bytes ws ns rest f.1)
 
 low_number : (w i : ℕ) (bs : List ℕ) → Bytes bs → i + w ≤ length bs → low_bytes w (number_at bs i w) ≡ take w (drop i bs)
 low_number zero i bs b h = refl
