@@ -1,5 +1,5 @@
 -- The six calls of an account, and the one outcome of each.
-use Rattle.std.specs.Prelude.{ℕ, ◌+◌, Bool, cond, not, ◌&&◌, List, [], ◌∷◌, ◌++◌, length, pos, neg_ℤ, is_some, Some, None, Ok, Err, Option, Result, ◌==◌, nat_le, nat_lt, slice_index_or, slice_set}
+use Rattle.std.specs.Prelude.{ℕ, ◌+◌, Bool, if◌then◌else◌, not, ◌&&◌, List, [], ◌∷◌, ◌++◌, length, pos, neg_ℤ, is_some, Some, None, Ok, Err, Option, Result, ◌==◌, nat_le, nat_lt, slice_index_or, slice_set}
 use Rattle.gas.specs.declared.day.DayNumbers.{DayNumbers}
 use Rattle.gas.specs.declared.day.DayRecord.{DayRecord}
 use Rattle.gas.specs.declared.faults.InputFault.{InputFault}
@@ -44,7 +44,7 @@ Tests = List (Bool × AccountFault)
 
 abbrev pub first_failing : Tests → Option AccountFault
 first_failing [] = None
-first_failing (t ∷ ts) = cond t.0 (first_failing ts) (Some t.1)
+first_failing (t ∷ ts) = if t.0 then first_failing ts else Some t.1
 
 abbrev pub lawful : Bool → InputFault → Bool × AccountFault
 lawful ok f = (ok, fault.Input f)
@@ -137,7 +137,7 @@ abbrev pub most_lines : ℕ
 most_lines = 1024
 
 abbrev pub with_lines : Year → List Line → Result (List Line) AccountFault → Result State AccountFault
-with_lines y lines (Ok more) = cond (nat_le (length lines + length more) most_lines) (Ok (record { year = y; lines = lines ++ more })) (Err fault.NoRoom)
+with_lines y lines (Ok more) = if nat_le (length lines + length more) most_lines then Ok (record { year = y; lines = lines ++ more }) else Err fault.NoRoom
 with_lines y lines (Err e) = Err e
 
 abbrev pub unless_refused : Option AccountFault → Result State AccountFault → Result State AccountFault

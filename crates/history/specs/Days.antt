@@ -2,7 +2,7 @@
 -- Words:
 -- a place, where a day's record stands or does not stand: 31 for each month, in the order of dates
 -- a day is posted where its place has a record
-use Rattle.std.specs.Prelude.{◌≡◌, ℕ, ◌+◌, ◌-◌, ◌*◌, Bool, true, false, cond, not, ◌&&◌, List, [], ◌∷◌, length, take, drop, ℤ, pos, ◌-ℤ◌, Some, None, Ok, Err, sum_by, Option, Result, ◌==◌, nat_le, nat_lt, slice_index_or, refl}
+use Rattle.std.specs.Prelude.{◌≡◌, ℕ, ◌+◌, ◌-◌, ◌*◌, Bool, true, false, if◌then◌else◌, not, ◌&&◌, List, [], ◌∷◌, length, take, drop, ℤ, pos, ◌-ℤ◌, Some, None, Ok, Err, sum_by, Option, Result, ◌==◌, nat_le, nat_lt, slice_index_or, refl}
 use Rattle.std.specs.List.{flat_map, position}
 use Rattle.std.specs.Option.{option_to_list}
 use Rattle.std.proofs.lemmas.Bool.{and_parts, leb-true}
@@ -51,7 +51,7 @@ place_of_first unauthorized days = position (λ place. not (keeps_authority unau
 -- the number, in a month, of the day at a place, if it is a day of that month
 abbrev pub day_of_first : Bool → Option ℕ → ℕ → Option ℕ
 day_of_first leap None month = None
-day_of_first leap (Some place) month = cond (nat_le (31 * month) place && nat_lt place (31 * month + month_length leap month)) (Some (place - 31 * month + 1)) None
+day_of_first leap (Some place) month = if nat_le (31 * month) place && nat_lt place (31 * month + month_length leap month) then Some (place - 31 * month + 1) else None
 
 -- the lawful day of numbers that are within their limits
 abbrev pub kind_of : ℕ → DayKind
@@ -85,4 +85,4 @@ day_tested n false e = Err input.Quantity
 
 -- the day that numbers make, or their refusal: the kind first, then the mark, then the quantities
 abbrev pub day_of : DayNumbers → Result DayRecord InputFault
-day_of n = cond (nat_le n.kind 3) (cond (nat_le n.curtailed 1) (day_tested n (lawful_day n) refl) (Err input.Mark)) (Err input.DayKind)
+day_of n = if nat_le n.kind 3 then (if nat_le n.curtailed 1 then day_tested n (lawful_day n) refl else Err input.Mark) else Err input.DayKind

@@ -2,7 +2,7 @@
 -- Words:
 -- a history, the calls so far with their answers, the newest first
 -- a run, what a new account has become by a history
-use Rattle.std.specs.Prelude.{◌≡◌, ℕ, ◌<◌, cond, List, [], ◌∷◌, length, ℤ, pos, ◌+ℤ◌, Some, None, Ok, Option, ◌==◌}
+use Rattle.std.specs.Prelude.{◌≡◌, ℕ, ◌<◌, if◌then◌else◌, List, [], ◌∷◌, length, ℤ, pos, ◌+ℤ◌, Some, None, Ok, Option, ◌==◌}
 use Rattle.std.specs.Int.{int_min}
 use Rattle.std.specs.Result.{result_err, result_unwrap_or}
 use Rattle.gas.specs.declared.items.Item.{Item}
@@ -50,11 +50,11 @@ Run s (e ∷ h) b = (a : State) × Run s h a × Step s a e b
 
 -- the therms of all monthly balancing lines
 abbrev pub balanced_therms : List Line → ℤ
-balanced_therms lines = sum_z (λ l. cond (heading_item l.heading == item_number MonthlyBalancing) (therms_on l) (pos 0)) lines
+balanced_therms lines = sum_z (λ l. if heading_item l.heading == item_number MonthlyBalancing then therms_on l else pos 0) lines
 
 -- the money of all lines of the interim months
 abbrev pub interim_lines : Opening → List Line → ℤ
-interim_lines o lines = sum_z (λ l. cond (is_interim o (heading_month l.heading)) (money_on l) (pos 0)) lines
+interim_lines o lines = sum_z (λ l. if is_interim o (heading_month l.heading) then money_on l else pos 0) lines
 
 -- months: in each closed month each item's lines add up to its price in the year as known
 -- therms: those on monthly balancing lines and the open ones are receipts less readings of all posted days
