@@ -5,7 +5,7 @@ use crate::terms::{
     AFFORDABILITY, DEAR_AFFORDABILITY, FIRM, FRANCHISE, SECOND_AFFORDABILITY, SECOND_FRANCHISE,
     TOLERANCE, WEATHER, large, small,
 };
-use anyhow::anyhow;
+use anyhow::Context;
 use gas::{ClosingNumbers, DayKind, Facts, MonthNumbers, Therms};
 use pipelines::Northern;
 use riders::{Interim, Rider};
@@ -154,10 +154,12 @@ fn stacks(text: &mut String, november: &Facts, idle: &Facts) -> Result<(), fmt::
 fn mixed_months(text: &mut String, heap: Global) -> anyhow::Result<()> {
     let november = Pattern::Mixed { base: 1_000 }.days(heap, 30)?;
     let may = Pattern::Mixed { base: 900 }.days(heap, 31)?;
-    let november = Facts::new(NOVEMBER, november.as_slice()).map_err(|_| anyhow!(
-        "November is not lawful"
-    ))?;
-    let may = Facts::new(MAY, may.as_slice()).map_err(|_| anyhow!("May is not lawful"))?;
+    let november = Facts::new(NOVEMBER, november.as_slice())
+        .ok()
+        .context("November is not lawful")?;
+    let may = Facts::new(MAY, may.as_slice())
+        .ok()
+        .context("May is not lawful")?;
     classes(text, &november, &may)?;
     riders(text, &november, &may)?;
     Ok(())
@@ -173,12 +175,12 @@ fn full_months(text: &mut String, heap: Global) -> anyhow::Result<()> {
         kind: DayKind::Normal,
     }
     .days(heap, 31)?;
-    let critical = Facts::new(DECEMBER, critical.as_slice()).map_err(|_| anyhow!(
-        "the critical December is not lawful"
-    ))?;
-    let normal = Facts::new(DECEMBER, normal.as_slice()).map_err(|_| anyhow!(
-        "the normal December is not lawful"
-    ))?;
+    let critical = Facts::new(DECEMBER, critical.as_slice())
+        .ok()
+        .context("the critical December is not lawful")?;
+    let normal = Facts::new(DECEMBER, normal.as_slice())
+        .ok()
+        .context("the normal December is not lawful")?;
     refusals(text, &critical, &normal)?;
     Ok(())
 }
@@ -187,8 +189,12 @@ fn full_months(text: &mut String, heap: Global) -> anyhow::Result<()> {
 fn spring_months(text: &mut String, heap: Global) -> anyhow::Result<()> {
     let march = Pattern::Mixed { base: 1_000 }.days(heap, 31)?;
     let april = Pattern::Mixed { base: 930 }.days(heap, 30)?;
-    let march = Facts::new(MARCH, march.as_slice()).map_err(|_| anyhow!("March is not lawful"))?;
-    let april = Facts::new(APRIL, april.as_slice()).map_err(|_| anyhow!("April is not lawful"))?;
+    let march = Facts::new(MARCH, march.as_slice())
+        .ok()
+        .context("March is not lawful")?;
+    let april = Facts::new(APRIL, april.as_slice())
+        .ok()
+        .context("April is not lawful")?;
     seasons(text, &march, &april)?;
     Ok(())
 }
@@ -197,12 +203,12 @@ fn spring_months(text: &mut String, heap: Global) -> anyhow::Result<()> {
 fn stacked_months(text: &mut String, heap: Global) -> anyhow::Result<()> {
     let november = Pattern::Mixed { base: 1_000 }.days(heap, 30)?;
     let idle = Pattern::Idle.days(heap, 31)?;
-    let november = Facts::new(NOVEMBER, november.as_slice()).map_err(|_| anyhow!(
-        "November is not lawful"
-    ))?;
-    let idle = Facts::new(DECEMBER, idle.as_slice()).map_err(|_| anyhow!(
-        "the idle December is not lawful"
-    ))?;
+    let november = Facts::new(NOVEMBER, november.as_slice())
+        .ok()
+        .context("November is not lawful")?;
+    let idle = Facts::new(DECEMBER, idle.as_slice())
+        .ok()
+        .context("the idle December is not lawful")?;
     stacks(text, &november, &idle)?;
     Ok(())
 }

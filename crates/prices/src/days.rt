@@ -4,7 +4,7 @@ ghost use Rattle.gas.specs.Day.{kind_number, numbers_of};
 ghost use Rattle.prices.specs.Days.{full_day, idle_day, mixed_day};
 ghost use Rattle.prices.specs.Patterns.{day_of, days_to};
 
-use anyhow::anyhow;
+use anyhow::Context;
 use gas::{DayKind, DayNumbers, DayRecord};
 use std::alloc::Global;
 
@@ -21,7 +21,6 @@ pub enum Pattern {
 
 // A day like many others, by its number in the month.
 fn mixed(base: u16, number: u8) -> DayNumbers
-    requires { number ≤ 31 }
     ensures { result ≡ mixed_day base number }
 {
     let k = u32::from(number);
@@ -73,7 +72,6 @@ fn idle() -> DayNumbers
 impl Pattern {
     // The numbers of a day, by its number in the month.
     fn numbers(self, number: u8) -> DayNumbers
-        requires { number ≤ 31 }
         ensures { result ≡ day_of self number }
     {
         match self {
@@ -90,9 +88,9 @@ impl Pattern {
     {
         let mut days = Vec::new(heap);
         for number in 1..count + 1 {
-            let day = DayRecord::try_from(self.numbers(number)).map_err(|_| anyhow!(
-                "a day is not lawful"
-            ))?;
+            let day = DayRecord::try_from(self.numbers(number))
+                .ok()
+                .context("a day is not lawful")?;
             days.push(day)?;
         }
         Ok(days)
