@@ -15,6 +15,7 @@ pub enum InputFault {
 }
 
 impl InputFault {
+    // A cast is of one enum, so that an interface over all faults would have this line in each.
     pub fn number(self) -> u8
         ensures { result ≡ input_number self }
     {

@@ -23,6 +23,7 @@ pub enum AccountFault {
 }
 
 impl AccountFault {
+    // By cases, since two of them carry the fault whose number they have.
     pub fn number(self) -> u8
         ensures { result ≡ account_number self }
     {
@@ -44,6 +45,7 @@ impl AccountFault {
     }
 }
 
+// Both by hand, so that a clause can name what `?` makes.
 impl From<InputFault> for AccountFault {
     ghost from_gives = { λ e r. r ≡ Input e };
 

@@ -12,6 +12,7 @@ pub enum PipelineFault {
 }
 
 impl PipelineFault {
+    // By cases, since one of them carries the fault whose number it has.
     pub fn number(self) -> u8
         ensures { result ≡ pipeline_number self }
     {
@@ -22,6 +23,7 @@ impl PipelineFault {
     }
 }
 
+// By hand, so that a clause can name what `?` makes.
 impl From<InputFault> for PipelineFault {
     ghost from_gives = { λ f r. r ≡ Input f };
 

@@ -6,7 +6,7 @@ ghost use Rattle.records.specs.Rows.{day_names, fields_text, record_text, row_te
 use journal::{Day, Placed, ReadFault, Record};
 use std::fmt;
 
-// The fields of a day, each with its name.
+// The fields of a day, each with its name: a type of our own, since the day is another crate's and its words are this program's.
 #[derive(Clone, Copy)]
 struct Named(Day);
 
