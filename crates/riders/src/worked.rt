@@ -4,7 +4,8 @@ ghost use Rattle.riders.specs.Worked.{WeatherAsExpected, months, years};
 
 // How many months of the gas years with weather rates have the rate that was expected.
 pub fn weather_months() -> u8
-    ensures { (result ≡ length years * length months) × WeatherAsExpected }
+    ensures count { result ≡ length years * length months }
+    ensures expected { WeatherAsExpected }
 {
     84
 }
