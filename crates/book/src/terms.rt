@@ -6,8 +6,6 @@ ghost use Rattle.book.specs.Terms.{opening_numbers};
 
 use gas::{Month, PerMille};
 
-const NO_INCREASE: PerMille = PerMille { share: 0 };
-
 // The interim increase, and the first and the last month in which it is in force.
 #[derive(Clone, Copy)]
 pub struct OpeningTerms {
@@ -31,7 +29,7 @@ impl OpeningTerms {
         if (self.first.number..=self.last.number).contains(&month.number) {
             increase
         } else {
-            NO_INCREASE
+            PerMille::default()
         }
     }
 }

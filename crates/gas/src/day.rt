@@ -11,10 +11,10 @@ const MOST_A_DAY: u32 = 200_000;
 #[derive(Clone, Copy, Debug, Default, PartialEq, Eq)]
 pub enum DayKind {
     #[default]
-    Normal,
-    Sul,
-    Sol,
-    Critical,
+    Normal = 0,
+    Sul = 1,
+    Sol = 2,
+    Critical = 3,
 }
 
 // The eight numbers of a day, lawful or not: quantities in therms, the cost and the rate in millicents per therm.

@@ -3,8 +3,8 @@ ghost use Rattle.std.specs.Prelude.{◌≡◌};
 ghost use Rattle.journal.specs.Reading.{read_body, read_day, read_front, read_record};
 ghost use Rattle.journal.specs.RoundTrips.{BeginsWith};
 
-use super::faults::ReadFault;
-use super::kinds::{Day, Record};
+use crate::faults::ReadFault;
+use crate::kinds::{Day, Record};
 
 fn open(body: &[u8]) -> Result<Record, ReadFault>
     ensures { result ≡ read_body 1 body.now }

@@ -1,9 +1,9 @@
 // A reader over the bytes of a journal.
 ghost use Rattle.std.specs.Prelude.{◌≡◌, ◌≤◌, length};
 
-use super::bodies::front;
-use super::faults::ReadFault;
-use super::kinds::Placed;
+use crate::bodies::front;
+use crate::faults::ReadFault;
+use crate::kinds::Placed;
 
 // The journal's bytes and the place of the next record among them.
 #[derive(Drop)]

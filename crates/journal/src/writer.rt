@@ -6,8 +6,8 @@ ghost use Rattle.journal.specs.declared.kinds.Record.TheVariants.{Open, Close, P
 ghost use Rattle.journal.specs.RoundTrips.{ReadsBack};
 ghost use Rattle.journal.specs.Writing.{put_answer, buffer_with, write_answer, buffer_after};
 
-use super::faults::WriteFault;
-use super::kinds::{Day, Record};
+use crate::faults::WriteFault;
+use crate::kinds::{Day, Record};
 
 // The bytes at the start of the buffer, or a refusal where they have no room.
 fn put<const N: usize>(buffer: &mut [u8], bytes: &[u8; N]) -> Result<usize, WriteFault>
