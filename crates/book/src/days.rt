@@ -11,7 +11,7 @@ use gas::{DayRecord, Month};
 use std::marker::Model;
 use std::mem;
 
-// What stands at each place of the year. A contract sees it as the list of these.
+// What stands at each place of the year, in memory of a fixed size. A contract sees it as the list of these.
 #[derive(Drop)]
 pub struct DayTable {
     places: [Option<DayRecord>; 372],
@@ -61,7 +61,7 @@ impl DayTable {
         self.places[place.index] = Some(day);
     }
 
-    // Lends the record at a place to be replaced and answers what it was; an empty place stays empty.
+    // Lends the record at a place to be replaced and answers what it was; an empty place stays empty. A match, since what a `map` over the borrowed record writes was not proved.
     pub fn exchange(&mut self, place: Place, day: DayRecord) -> Option<DayRecord>
         ensures before { result ≡ slice_index_or self.old place.index None }
         ensures after { self.new ≡ exchanged self.old place.index day result }

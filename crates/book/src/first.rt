@@ -9,10 +9,9 @@ use gas::{DayRecord, Month, Schedule};
 fn is_authorized<S: Schedule>(schedule: &S, place: &Option<DayRecord>) -> bool
     ensures { result ≡ keeps_authority (S.unauthorized schedule.now) place.now }
 {
-    match place {
-        Some(day) => schedule.unauthorized(day).count == 0,
-        None => true,
-    }
+    place
+        .as_ref()
+        .is_none_or(|day| schedule.unauthorized(day).count == 0)
 }
 
 // The place of the first unauthorized day by date, if there is one.
@@ -30,8 +29,6 @@ pub fn first_day(leap: bool, first: Option<usize>, month: Month) -> Option<u8>
 {
     let place = first?;
     let days = places_of(month, leap);
-    if !days.contains(&place) {
-        return None;
-    }
-    Some((place - days.start + 1) as u8)
+    days.contains(&place)
+        .then(|| (place - days.start + 1) as u8)
 }

@@ -79,7 +79,7 @@ fn quantity(count: u32, most: u32) -> Result<Therms, InputFault>
 impl DayRecord {
     ghost use Rattle.gas.specs.Day.{mark_number};
 
-    // Whether the day is curtailed.
+    // Whether the day is curtailed. A function, since a `bool` can have no conversion of ours.
     fn mark(number: u8) -> Result<bool, InputFault>
         ensures { read mark_number result ≡ checked_mark number }
     {

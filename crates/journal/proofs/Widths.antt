@@ -1,5 +1,5 @@
 -- Rows of numbers in bytes: what is written by some widths is read by them, and the other way round.
-use Rattle.std.proofs.Common.{◌≡◌, ℕ, zero, suc, ◌+◌, ◌*◌, ◌/◌, ◌%◌, ◌<◌, ◌≤◌, List, [], ◌∷◌, ◌++◌, length, get_or, take, drop, sym, refl, ap, ◌∙◌, ap₂, append_assoc, add_assoc, add-suc, arith, length-append, drop-cons, drop-drop, get_or-append-add, take-add}
+use Rattle.std.proofs.Common.{◌≡◌, ℕ, zero, suc, ◌+◌, ◌*◌, ◌/◌, ◌%◌, ◌<◌, ◌≤◌, List, [], ◌∷◌, ◌++◌, length, get_or, take, drop, sym, refl, ap, ◌∙◌, ap₂, append_assoc, add_assoc, add-suc, arith, drop-cons, drop-drop, get_or-append-add, take-add}
 use Rattle.journal.specs.Numbers.{number_at, row_at, low_bytes, row_bytes, row_length, limit, Fit}
 
 -- every place of the list holds a byte
@@ -9,13 +9,6 @@ Bytes bs = (i : ℕ) → get_or bs i 0 < 256
 length_low : (w n : ℕ) → length (low_bytes w n) ≡ w
 length_low zero n = refl
 length_low (suc w) n = ap suc (length_low w (n / 256))
-
-pub length_bytes : (ws ns : List ℕ) → Fit ws ns → length (row_bytes ws ns) ≡ row_length ws
-length_bytes [] [] f = refl
-length_bytes [] (n ∷ ns) f = absurd f
-length_bytes (w ∷ ws) [] f = absurd f
-length_bytes (w ∷ ws) (n ∷ ns) f =
-    length-append (low_bytes w n) (row_bytes ws ns) ∙ ap₂ ◌+◌ (length_low w n) (length_bytes ws ns f.1)
 
 number_behind : (xs ys : List ℕ) (i w : ℕ) → number_at (xs ++ ys) (length xs + i) w ≡ number_at ys i w
 number_behind xs ys i zero = refl
@@ -36,7 +29,7 @@ number_low (suc w) n rest h =
     let back = number_low w (n / 256) rest (omega arith) in
     omega (arith, more ∙ back)
 
--- reading by the widths gives back what was written by them, whatever stands behind it
+-- reading by the widths gives back what was written by them, whatever stands behind it; no proof cites this, since the check finds it for each kind, and it says it of every row
 pub numbers_bytes : (ws ns rest : List ℕ) → Fit ws ns → row_at ws (row_bytes ws ns ++ rest) 0 ≡ ns
 numbers_bytes [] [] rest f = refl
 numbers_bytes [] (n ∷ ns) rest f = absurd f

@@ -19,7 +19,7 @@ fn put<const N: usize>(buffer: &mut [u8], bytes: &[u8; N]) -> Result<usize, Writ
     Ok(N)
 }
 
-// The bytes of a record of the kind that carries a day.
+// The bytes of a record of the kind that carries a day. Each kind has a function of its own, as in the reader.
 fn day_bytes(kind: u8, day: Day) -> [u8; 29]
     ensures bytes { result ≡ kind ∷ bytes_of_day day }
     ensures within { Fit day_widths (day_fields day) }

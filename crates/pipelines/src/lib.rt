@@ -10,4 +10,5 @@ mod tolerance;
 
 pub use faults::PipelineFault;
 pub use northern::Northern;
-pub use terms::{MonthTerms, Tolerance, ToleranceNumbers};
+pub use terms::MonthTerms;
+pub use tolerance::{Tolerance, ToleranceNumbers};

@@ -18,20 +18,21 @@ impl fmt::Display for Row {
     ghost output = { λ r. Some (answer_text r.case r.item (read (λ m. m.amount) r.answer)) };
 
     fn fmt<W: fmt::Write>(&self, f: &mut fmt::Formatter<W>) -> fmt::Result {
-        let case = self.case;
-        let item = self.item.number();
         match self.answer {
-            Ok(Millicents { amount }) => write!(f, "{case} {item} {amount}"),
+            Ok(Millicents { amount }) => {
+                write!(f, "{} {} {amount}", self.case, self.item.number())
+            }
             Err(fault) => {
-                let number = fault.number();
-                let ScheduleFault::PastLimit {
-                    month,
-                    item: at,
-                    layer,
-                } = fault;
-                let at = at.number();
-                let layer = layer.number();
-                write!(f, "{case} {item} refused {number} {month} {at} {layer}")
+                let ScheduleFault::PastLimit { month, item, layer } = fault;
+                write!(
+                    f,
+                    "{} {} refused {} {month} {} {}",
+                    self.case,
+                    self.item.number(),
+                    fault.number(),
+                    item.number(),
+                    layer.number()
+                )
             }
         }
     }

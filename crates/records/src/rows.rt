@@ -35,7 +35,7 @@ impl fmt::Display for Named {
     }
 }
 
-// A record's kind in a word and its fields by name.
+// A record's kind in a word and its fields by name: a type of our own, as for the day.
 #[derive(Clone, Copy)]
 struct Described(Record);
 
