@@ -61,15 +61,13 @@ impl DayTable {
         self.places[place.index] = Some(day);
     }
 
-    // Lends the record at a place to be replaced and answers what it was; an empty place stays empty. A match, since what a `map` over the borrowed record writes was not proved.
+    // Lends the record at a place to be replaced and answers what it was; an empty place stays empty.
     pub fn exchange(&mut self, place: Place, day: DayRecord) -> Option<DayRecord>
         ensures before { result ≡ slice_index_or self.old place.index None }
         ensures after { self.new ≡ exchanged self.old place.index day result }
     {
-        match &mut self.places[place.index] {
-            Some(record) => Some(mem::replace(record, day)),
-            None => None,
-        }
+        let record = self.places[place.index].as_mut()?;
+        Some(mem::replace(record, day))
     }
 
     // The places of a month's days.
