@@ -44,7 +44,7 @@ impl DayTable {
     pub fn as_slice(&self) -> &[Option<DayRecord>]
         ensures { result.now ≡ self.now }
     {
-        &self.places
+        self.places.as_slice()
     }
 
     // What stands at a place.
