@@ -79,7 +79,7 @@ impl DayTable {
     }
 }
 
-// Those of some places that have a record.
+// Those of some places that have a record. A loop over the places: a `flatten` of them would want lemmas of its own. The bound of 31 stands here and not in a type, since a month's places are passed on at once.
 pub fn posted(places: &[Option<DayRecord>]) -> MonthDays
     requires { length places.now ≤ 31 }
     ensures { result.items ≡ flat_map option_to_list places.now }

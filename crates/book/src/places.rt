@@ -28,7 +28,7 @@ impl Place {
     }
 }
 
-// The places of a month's days.
+// The places of a month's days. The leap mark, which is the year's, comes beside the month, which is a call's.
 pub fn places_of(month: Month, leap: bool) -> Range<usize>
     ensures start { result.start ≡ 31 * month.number }
     ensures end { result.end ≡ 31 * month.number + month_length leap month.number }

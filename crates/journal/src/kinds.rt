@@ -2,7 +2,7 @@
 ghost use Rattle.std.specs.Prelude.{◌≡◌};
 ghost use Rattle.journal.specs.Format.{record_length};
 
-// A meter day as its bytes have it: the quantities in therms, the cost and the rate in millicents per therm.
+// A meter day as its bytes have it: the quantities in therms, the cost and the rate in millicents per therm. The journal stands alone, so that it shares no type with what days are priced by.
 #[derive(Clone, Copy, Debug, PartialEq, Eq)]
 pub struct Day {
     pub month: u8,

@@ -150,7 +150,7 @@ fn stacks(text: &mut String, november: &Facts, idle: &Facts) -> Result<(), fmt::
     table(text, 27, &FRANCHISE.on(large()), idle)
 }
 
-// The mixed November and May.
+// The mixed November and May. The facts borrow the days, so that each pair of months is made where its cases are printed.
 fn mixed_months(text: &mut String, heap: Global) -> anyhow::Result<()> {
     let november = Pattern::Mixed { base: 1_000 }.days(heap, 30)?;
     let may = Pattern::Mixed { base: 900 }.days(heap, 31)?;

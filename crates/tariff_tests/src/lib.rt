@@ -16,7 +16,7 @@ mod days {
         variance_rate: 2_000_000,
     };
 
-    // The number of the refusal, if the day is refused.
+    // The number of the refusal, if the day is refused. One line for each type and its fault, here and below.
     fn refusal(numbers: DayNumbers) -> Option<u8> {
         DayRecord::try_from(numbers).err().map(InputFault::number)
     }
