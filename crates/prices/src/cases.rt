@@ -1,4 +1,7 @@
 // The cases: months of days on schedules.
+ghost use Rattle.std.specs.Prelude.{◌≡◌, Ok, IfOk};
+ghost use Rattle.gas.specs.Facts.{checked_facts, facts_of};
+
 use crate::days::Pattern;
 use crate::tables::table;
 use crate::terms::{
@@ -6,7 +9,7 @@ use crate::terms::{
     TOLERANCE, WEATHER, large, small,
 };
 use anyhow::Context;
-use gas::{ClosingNumbers, DayKind, Facts, MonthNumbers, Therms};
+use gas::{ClosingNumbers, DayKind, DayRecord, Facts, MonthNumbers, Therms};
 use pipelines::Northern;
 use riders::{Interim, Rider};
 use std::alloc::Global;
@@ -62,6 +65,17 @@ const MARCH: MonthNumbers = MonthNumbers {
 };
 
 const APRIL: MonthNumbers = MonthNumbers { month: 5, ..MARCH };
+
+// The facts of a month, or an error that says which month has none.
+fn lawful<'a>(
+    numbers: MonthNumbers,
+    days: &'a [DayRecord],
+    refusal: &'static str,
+) -> anyhow::Result<Facts<'a>>
+    ensures { IfOk result (λ f. Ok (facts_of f) ≡ checked_facts (record { numbers = numbers; days = days.now })) }
+{
+    Facts::new(numbers, days).ok().context(refusal)
+}
 
 // The classes on both pipelines.
 fn classes(text: &mut String, november: &Facts, may: &Facts) -> Result<(), fmt::Error> {
@@ -154,12 +168,8 @@ fn stacks(text: &mut String, november: &Facts, idle: &Facts) -> Result<(), fmt::
 fn mixed_months(text: &mut String, heap: Global) -> anyhow::Result<()> {
     let november = Pattern::Mixed { base: 1_000 }.days(heap, 30)?;
     let may = Pattern::Mixed { base: 900 }.days(heap, 31)?;
-    let november = Facts::new(NOVEMBER, november.as_slice())
-        .ok()
-        .context("November is not lawful")?;
-    let may = Facts::new(MAY, may.as_slice())
-        .ok()
-        .context("May is not lawful")?;
+    let november = lawful(NOVEMBER, november.as_slice(), "November is not lawful")?;
+    let may = lawful(MAY, may.as_slice(), "May is not lawful")?;
     classes(text, &november, &may)?;
     riders(text, &november, &may)?;
     Ok(())
@@ -175,12 +185,16 @@ fn full_months(text: &mut String, heap: Global) -> anyhow::Result<()> {
         kind: DayKind::Normal,
     }
     .days(heap, 31)?;
-    let critical = Facts::new(DECEMBER, critical.as_slice())
-        .ok()
-        .context("the critical December is not lawful")?;
-    let normal = Facts::new(DECEMBER, normal.as_slice())
-        .ok()
-        .context("the normal December is not lawful")?;
+    let critical = lawful(
+        DECEMBER,
+        critical.as_slice(),
+        "the critical December is not lawful",
+    )?;
+    let normal = lawful(
+        DECEMBER,
+        normal.as_slice(),
+        "the normal December is not lawful",
+    )?;
     refusals(text, &critical, &normal)?;
     Ok(())
 }
@@ -189,12 +203,8 @@ fn full_months(text: &mut String, heap: Global) -> anyhow::Result<()> {
 fn spring_months(text: &mut String, heap: Global) -> anyhow::Result<()> {
     let march = Pattern::Mixed { base: 1_000 }.days(heap, 31)?;
     let april = Pattern::Mixed { base: 930 }.days(heap, 30)?;
-    let march = Facts::new(MARCH, march.as_slice())
-        .ok()
-        .context("March is not lawful")?;
-    let april = Facts::new(APRIL, april.as_slice())
-        .ok()
-        .context("April is not lawful")?;
+    let march = lawful(MARCH, march.as_slice(), "March is not lawful")?;
+    let april = lawful(APRIL, april.as_slice(), "April is not lawful")?;
     seasons(text, &march, &april)?;
     Ok(())
 }
@@ -203,12 +213,8 @@ fn spring_months(text: &mut String, heap: Global) -> anyhow::Result<()> {
 fn stacked_months(text: &mut String, heap: Global) -> anyhow::Result<()> {
     let november = Pattern::Mixed { base: 1_000 }.days(heap, 30)?;
     let idle = Pattern::Idle.days(heap, 31)?;
-    let november = Facts::new(NOVEMBER, november.as_slice())
-        .ok()
-        .context("November is not lawful")?;
-    let idle = Facts::new(DECEMBER, idle.as_slice())
-        .ok()
-        .context("the idle December is not lawful")?;
+    let november = lawful(NOVEMBER, november.as_slice(), "November is not lawful")?;
+    let idle = lawful(DECEMBER, idle.as_slice(), "the idle December is not lawful")?;
     stacks(text, &november, &idle)?;
     Ok(())
 }
