@@ -58,6 +58,21 @@ impl TryFrom<ClosingNumbers> for Closing {
     }
 }
 
+// The numbers of a lawful closing, as they were given.
+impl From<Closing> for ClosingNumbers {
+    ghost use Rattle.gas.specs.Month.{closing_numbers};
+
+    ghost from_gives = { λ closing numbers. numbers ≡ closing_numbers closing };
+
+    fn from(closing: Closing) -> ClosingNumbers {
+        ClosingNumbers {
+            index: closing.index.price,
+            interruptible: closing.interruptible.price,
+            firm: closing.firm.price,
+        }
+    }
+}
+
 // Refused where a total is above 6,200,000 or a rate above 2,000,000.
 impl TryFrom<TotalsNumbers> for Totals {
     ghost use Rattle.gas.specs.Month.{totals_numbers};
