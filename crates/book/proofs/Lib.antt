@@ -1,2 +1,3 @@
 pub mod Balances
 pub mod Collecting
+pub mod Pricing

@@ -2,3 +2,4 @@ pub mod Days
 pub mod Slots
 pub mod Tables
 pub mod Terms
+pub mod Years

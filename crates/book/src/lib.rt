@@ -9,3 +9,4 @@ mod run;
 mod table;
 mod targets;
 mod terms;
+mod year;

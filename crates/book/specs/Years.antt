@@ -1,0 +1,27 @@
+-- The year that a book's tables know.
+use Rattle.std.specs.Prelude.{◌≡◌, ℕ, ◌<◌, true, length, Option, slice_index_or, unwrap_or}
+use Rattle.gas.specs.Facts.{MonthFacts}
+use Rattle.history.specs.Days.{day_of_first, is_complete, month_days}
+use Rattle.history.specs.Prices.{nothing_charged}
+use Rattle.history.specs.Year.{Standing, Year}
+use Rattle.book.specs.declared.year.MeterYear.{MeterYear}
+
+-- the year as known, by the standing of an account and its tables
+abbrev pub year_by : Standing → MeterYear → Year
+year_by standing y = record { standing = standing; leap = y.leap; days = y.days; closings = y.closings }
+
+-- all days of the closed months are posted
+abbrev pub AllComplete : MeterYear → Type 0
+AllComplete y = (month : ℕ) → month < length y.closings → is_complete y.leap y.days month ≡ true
+
+-- the facts of a closed month, by the place of the year's first unauthorized day and the increase in force
+abbrev pub month_facts : MeterYear → Option ℕ → ℕ → ℕ → MonthFacts
+month_facts y first increase month = record {
+  numbers = record {
+    month = month;
+    closing = slice_index_or y.closings month nothing_charged;
+    increase = increase;
+    first = unwrap_or (day_of_first y.leap first month) 0;
+  };
+  days = month_days y.leap y.days month;
+}
