@@ -4,6 +4,7 @@ pub mod Due
 pub mod Faults
 pub mod Headings
 pub mod Prices
+pub mod Questions
 pub mod Runs
 pub mod Sums
 pub mod Year
