@@ -1,3 +1,4 @@
 pub mod Balances
 pub mod Collecting
+pub mod Differences
 pub mod Pricing

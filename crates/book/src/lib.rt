@@ -3,6 +3,7 @@
 
 mod closings;
 mod days;
+mod due;
 mod first;
 mod places;
 mod run;
