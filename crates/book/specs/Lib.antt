@@ -1,5 +1,6 @@
 pub mod Days
 pub mod Slots
 pub mod Tables
+pub mod Targets
 pub mod Terms
 pub mod Years
