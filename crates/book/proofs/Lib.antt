@@ -1,4 +1,5 @@
 pub mod Balances
 pub mod Collecting
 pub mod Differences
+pub mod Interim
 pub mod Pricing
