@@ -3,3 +3,4 @@ pub mod Collecting
 pub mod Differences
 pub mod Interim
 pub mod Pricing
+pub mod Scanning

@@ -7,6 +7,7 @@ mod due;
 mod first;
 mod places;
 mod run;
+mod settlement;
 mod table;
 mod targets;
 mod terms;

@@ -22,11 +22,18 @@ pub struct SettlementTerms {
 }
 
 impl OpeningTerms {
+    // Whether a month is an interim month.
+    pub fn is_interim(&self, month: u8) -> bool
+        ensures { result ≡ is_interim (opening_numbers self.now) month }
+    {
+        (self.first.number..=self.last.number).contains(&month)
+    }
+
     // An increase for the interim months is none in the others.
     pub fn in_force(&self, increase: PerMille, month: Month) -> PerMille
         ensures { result.share ≡ increase_in_force (opening_numbers self.now) increase.share month.number }
     {
-        if (self.first.number..=self.last.number).contains(&month.number) {
+        if self.is_interim(month.number) {
             increase
         } else {
             PerMille::default()
