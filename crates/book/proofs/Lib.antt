@@ -4,3 +4,4 @@ pub mod Differences
 pub mod Interim
 pub mod Pricing
 pub mod Scanning
+pub mod Standings

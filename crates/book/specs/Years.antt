@@ -3,8 +3,10 @@ use Rattle.std.specs.Prelude.{◌≡◌, ℕ, ◌<◌, true, length, Option, sli
 use Rattle.gas.specs.Facts.{MonthFacts}
 use Rattle.history.specs.Days.{day_of_first, is_complete, month_days}
 use Rattle.history.specs.Prices.{nothing_charged}
-use Rattle.history.specs.Year.{Standing, Year}
+use Rattle.history.specs.Year.{Standing, Year, is_settled}
+use Rattle.book.specs.declared.terms.Terms.{Terms}
 use Rattle.book.specs.declared.year.MeterYear.{MeterYear}
+use Rattle.book.specs.Terms.{standing_of}
 
 -- the year as known, by the standing of an account and its tables
 abbrev pub year_by : Standing → MeterYear → Year
@@ -13,6 +15,10 @@ year_by standing y = record { standing = standing; leap = y.leap; days = y.days;
 -- all days of the closed months are posted
 abbrev pub AllComplete : MeterYear → Type 0
 AllComplete y = (month : ℕ) → month < length y.closings → is_complete y.leap y.days month ≡ true
+
+-- once settled, all interim months are closed
+abbrev pub InterimClosed : Terms → MeterYear → Type 0
+InterimClosed t y = is_settled (standing_of t) ≡ true → t.opening.last.number < length y.closings
 
 -- the facts of a closed month, by the place of the year's first unauthorized day and the increase in force
 abbrev pub month_facts : MeterYear → Option ℕ → ℕ → ℕ → MonthFacts

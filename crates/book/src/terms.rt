@@ -21,6 +21,13 @@ pub struct SettlementTerms {
     pub interest: PerMille,
 }
 
+// What an account was opened with, and what it was settled with once it is.
+#[derive(Clone, Copy)]
+pub struct Terms {
+    pub opening: OpeningTerms,
+    pub settlement: Option<SettlementTerms>,
+}
+
 impl OpeningTerms {
     // Whether a month is an interim month.
     pub fn is_interim(&self, month: u8) -> bool
