@@ -1,3 +1,4 @@
+pub mod Books
 pub mod Days
 pub mod Slots
 pub mod Tables

@@ -1,6 +1,7 @@
 // The book of an account: the tables of its days, closings and lines, and what is worked out from them.
 #![tactic(auto)]
 
+mod book;
 mod closings;
 mod days;
 mod due;

@@ -1,0 +1,28 @@
+-- What a book holds, and what is true of every book.
+use Rattle.std.specs.Prelude.{ℕ, ◌≤◌, List, length}
+use Rattle.history.specs.declared.lines.Line.{Line}
+use Rattle.history.specs.Calls.{State}
+use Rattle.history.specs.Year.{Standing}
+use Rattle.book.specs.declared.table.LineTable.{LineTable}
+use Rattle.book.specs.declared.year.MeterYear.{MeterYear}
+use Rattle.book.specs.Tables.{Kept, Near}
+use Rattle.book.specs.Years.{AllComplete, year_by}
+
+-- what the meter told of the year with what closed its months, and the lines
+pub record Contents : Type 0 where
+  pub year : MeterYear
+  pub lines : List Line
+
+-- the account of a standing that has this book
+abbrev pub state_of : Standing → Contents → State
+state_of standing b = record { year = year_by standing b.year; lines = b.lines }
+
+-- few: the closed months, which run from November on, are at most twelve
+-- complete: all their days are posted; each is lawful, as every day record is
+-- kept: the lines are fit, and their sums stand in the table
+-- near: under each heading the lines add up to no more than a target can be, so that no sum runs over
+pub record Sound (y : MeterYear) (t : LineTable) : Type 0 where
+  pub few : length y.closings ≤ 12
+  pub complete : AllComplete y
+  pub kept : Kept t
+  pub near : Near t.lines.items
