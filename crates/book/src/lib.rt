@@ -6,6 +6,7 @@ mod closings;
 mod days;
 mod due;
 mod first;
+mod peak;
 mod places;
 mod run;
 mod settlement;

@@ -3,6 +3,7 @@ pub mod Days
 pub mod Due
 pub mod Faults
 pub mod Headings
+pub mod Peaks
 pub mod Prices
 pub mod Questions
 pub mod Runs

@@ -1,0 +1,21 @@
+// The peak day of a month.
+ghost use Rattle.std.specs.Prelude.{◌≤◌, length};
+ghost use Rattle.history.specs.Peaks.{IsPeak};
+
+use gas::{DayRecord, Therms};
+
+// The day of the greatest reading among the places of a month, counted from 1, if a day is posted there.
+pub fn peak_day(places: &[Option<DayRecord>]) -> Option<u8>
+    requires { length places.now ≤ 31 }
+    ensures { IsPeak places.now result }
+{
+    let mut peak: Option<(u8, Therms)> = None;
+    for (index, place) in places.iter().enumerate() {
+        if let Some(day) = place {
+            if peak.is_none_or(|(_, reading)| reading < day.reading) {
+                peak = Some((index as u8 + 1, day.reading));
+            }
+        }
+    }
+    Some(peak?.0)
+}
