@@ -8,6 +8,7 @@ mod due;
 mod first;
 mod peak;
 mod places;
+mod questions;
 mod run;
 mod settlement;
 mod table;
