@@ -2,6 +2,7 @@ pub mod Balances
 pub mod Collecting
 pub mod Differences
 pub mod Interim
+pub mod OpenMonths
 pub mod PeakDays
 pub mod Pricing
 pub mod Scanning

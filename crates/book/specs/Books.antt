@@ -1,5 +1,5 @@
 -- What a book holds, and what is true of every book.
-use Rattle.std.specs.Prelude.{ℕ, ◌≤◌, List, length}
+use Rattle.std.specs.Prelude.{◌≤◌, List, length}
 use Rattle.history.specs.declared.lines.Line.{Line}
 use Rattle.history.specs.Calls.{State}
 use Rattle.history.specs.Year.{Standing}

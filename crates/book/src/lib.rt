@@ -14,4 +14,5 @@ mod settlement;
 mod table;
 mod targets;
 mod terms;
+mod therms;
 mod year;

@@ -1,0 +1,42 @@
+// Receipts less readings, of some days and of all open months.
+ghost use Rattle.std.specs.Prelude.{◌≡◌, ◌≤◌, length};
+ghost use Rattle.history.specs.Days.{net_therms};
+ghost use Rattle.history.specs.Prices.{open_therms};
+ghost use Rattle.history.specs.Year.{not_opened};
+
+use crate::days::posted;
+use crate::year::MeterYear;
+use gas::{DayRecord, Month};
+use history::NetTherms;
+
+const MONTHS: u8 = 12;
+
+// What a month's days received less what they used.
+pub fn net_therms(days: &[DayRecord]) -> NetTherms
+    requires { length days.now ≤ 31 }
+    ensures { result.count ≡ net_therms days.now }
+{
+    let receipts: u32 = days.iter().map(|day| day.receipts.count).sum();
+    let readings: u32 = days.iter().map(|day| day.reading.count).sum();
+    NetTherms {
+        count: receipts as i64 - readings as i64,
+    }
+}
+
+impl MeterYear {
+    ghost use Rattle.book.specs.Years.{year_by};
+
+    // Receipts less readings of the days of open months. They are the same by any standing.
+    pub fn open_therms(&self) -> NetTherms
+        requires { length self.now.closings ≤ 12 }
+        ensures { result.count ≡ open_therms (year_by not_opened self.now) }
+    {
+        let mut sum = NetTherms::default();
+        for number in self.closings.count() as u8..MONTHS {
+            let month = Month { number };
+            let days = posted(self.days.month(month, self.leap));
+            sum += net_therms(days.as_slice());
+        }
+        sum
+    }
+}
