@@ -1,3 +1,5 @@
 pub mod Bringing
 pub mod Collected
+pub mod Known
+pub mod Places
 pub mod Totals
