@@ -3,3 +3,4 @@ pub mod Collected
 pub mod Known
 pub mod Places
 pub mod Totals
+pub mod Written
