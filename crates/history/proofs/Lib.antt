@@ -1,6 +1,7 @@
+pub mod Accounted
 pub mod Bringing
 pub mod Collected
 pub mod Known
+pub mod Law
 pub mod Places
 pub mod Totals
-pub mod Written
