@@ -2,6 +2,7 @@ pub mod Balances
 pub mod Collecting
 pub mod Differences
 pub mod Interim
+pub mod Nearness
 pub mod OpenMonths
 pub mod PeakDays
 pub mod Pricing
