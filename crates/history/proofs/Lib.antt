@@ -5,4 +5,5 @@ pub mod Known
 pub mod Law
 pub mod Months
 pub mod Places
+pub mod Storing
 pub mod Totals
