@@ -7,4 +7,5 @@ pub mod OpenMonths
 pub mod PeakDays
 pub mod Pricing
 pub mod Scanning
+pub mod Soundness
 pub mod Standings
