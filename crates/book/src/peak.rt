@@ -5,6 +5,7 @@ ghost use Rattle.history.specs.Peaks.{IsPeak};
 use gas::{DayRecord, Therms};
 
 // The day of the greatest reading among the places of a month, counted from 1, if a day is posted there.
+#[tactic(auto, using(crate::proofs::PeakDays::one_place_more))]
 pub fn peak_day(places: &[Option<DayRecord>]) -> Option<u8>
     requires { length places.now ≤ 31 }
     ensures { IsPeak places.now result }
@@ -17,5 +18,6 @@ pub fn peak_day(places: &[Option<DayRecord>]) -> Option<u8>
             }
         }
     }
-    Some(peak?.0)
+    let (day, _) = peak?;
+    Some(day)
 }
