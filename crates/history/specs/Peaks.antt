@@ -13,7 +13,7 @@ pub record HasPeak (places : Places) (day : ℕ) : Type 0 where
   pub posted : slice_index_or places (day - 1) None ≡ Some peak
   pub greatest : list_all (λ d. nat_le (metered d) (metered peak)) (flat_map option_to_list places) ≡ true
 
--- the peak day of a month's places, or none where no day is posted; which of several with the greatest reading, is not laid down
+-- the peak day of a month's places, or none where no day is posted; where several have the greatest reading, it is not laid down which
 abbrev pub IsPeak : Places → Option ℕ → Type 0
 IsPeak places None = flat_map option_to_list places ≡ []
 IsPeak places (Some day) = HasPeak places day
