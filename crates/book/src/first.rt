@@ -1,13 +1,13 @@
 // The gas year's first unauthorized day.
 ghost use Rattle.std.specs.Prelude.{◌≡◌};
-ghost use Rattle.history.specs.Days.{day_of_first, place_of_first, keeps_authority};
+ghost use Rattle.history.specs.Days.{day_of_first, place_of_first, nothing_unauthorized};
 
 use crate::places::places_of;
 use gas::{DayRecord, Month, Schedule};
 
 // Whether nothing unauthorized stands at a place.
 fn is_authorized<S: Schedule>(schedule: &S, place: &Option<DayRecord>) -> bool
-    ensures { result ≡ keeps_authority (S.unauthorized schedule.now) place.now }
+    ensures { result ≡ nothing_unauthorized (S.unauthorized schedule.now) place.now }
 {
     place
         .as_ref()

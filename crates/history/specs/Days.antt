@@ -39,14 +39,14 @@ is_complete leap days month = length (month_days leap days month) == month_lengt
 abbrev pub net_therms : List DayRecord → ℤ
 net_therms days = pos (sum_by received days) -ℤ pos (sum_by metered days)
 
--- nothing unauthorized stands at a place, by a schedule's unauthorized therms of a day
-abbrev pub keeps_authority : (DayRecord → ℕ) → Option DayRecord → Bool
-keeps_authority unauthorized None = true
-keeps_authority unauthorized (Some day) = unauthorized day == 0
+-- at a place nothing unauthorized stands, by a schedule's unauthorized therms of a day
+abbrev pub nothing_unauthorized : (DayRecord → ℕ) → Option DayRecord → Bool
+nothing_unauthorized unauthorized None = true
+nothing_unauthorized unauthorized (Some day) = unauthorized day == 0
 
 -- the place of the gas year's first unauthorized day by date, if a posted day is one
 abbrev pub place_of_first : (DayRecord → ℕ) → Places → Option ℕ
-place_of_first unauthorized days = position (λ place. not (keeps_authority unauthorized place)) days
+place_of_first unauthorized days = position (λ place. not (nothing_unauthorized unauthorized place)) days
 
 -- the number, in a month, of the day at a place, if it is a day of that month
 abbrev pub day_of_first : Bool → Option ℕ → ℕ → Option ℕ
