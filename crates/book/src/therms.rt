@@ -1,6 +1,6 @@
 // Receipts less readings, of some days and of all open months.
 ghost use Rattle.std.specs.Prelude.{◌≡◌, ◌≤◌, length};
-ghost use Rattle.history.specs.Days.{net_therms};
+ghost use Rattle.history.specs.Days.{month_days, net_therms};
 ghost use Rattle.history.specs.Prices.{open_therms};
 ghost use Rattle.history.specs.Year.{not_opened};
 
@@ -12,7 +12,7 @@ use history::NetTherms;
 const MONTHS: u8 = 12;
 
 // What a month's days received less what they used.
-pub fn net_therms(days: &[DayRecord]) -> NetTherms
+fn net_therms(days: &[DayRecord]) -> NetTherms
     requires { length days.now ≤ 31 }
     ensures { result.count ≡ net_therms days.now }
 {
@@ -26,6 +26,14 @@ pub fn net_therms(days: &[DayRecord]) -> NetTherms
 impl MeterYear {
     ghost use Rattle.book.specs.Years.{year_by};
 
+    // Receipts less readings of a month's posted days.
+    fn month_therms(&self, month: Month) -> NetTherms
+        ensures { result.count ≡ net_therms (month_days self.now.leap self.now.days month.number) }
+    {
+        let days = posted(self.days.month(month, self.leap));
+        net_therms(days.as_slice())
+    }
+
     // Receipts less readings of the days of open months. They are the same by any standing.
     pub fn open_therms(&self) -> NetTherms
         requires { length self.now.closings ≤ 12 }
@@ -33,9 +41,7 @@ impl MeterYear {
     {
         let mut sum = NetTherms::default();
         for number in self.closings.count() as u8..MONTHS {
-            let month = Month { number };
-            let days = posted(self.days.month(month, self.leap));
-            sum += net_therms(days.as_slice());
+            sum += self.month_therms(Month { number });
         }
         sum
     }
