@@ -1,9 +1,9 @@
 -- The year that a book's tables know.
 use Rattle.std.specs.Prelude.{◌≡◌, ℕ, ◌<◌, true, length, Option, slice_index_or, unwrap_or}
 use Rattle.gas.specs.Facts.{MonthFacts}
-use Rattle.history.specs.Days.{day_of_first, is_complete, month_days}
+use Rattle.history.specs.Days.{day_of_first, month_days}
 use Rattle.history.specs.Prices.{nothing_charged}
-use Rattle.history.specs.Year.{Standing, Year, is_settled}
+use Rattle.history.specs.Year.{Complete, Standing, Year, is_settled, not_opened}
 use Rattle.book.specs.declared.terms.Terms.{Terms}
 use Rattle.book.specs.declared.year.MeterYear.{MeterYear}
 use Rattle.book.specs.Terms.{standing_of}
@@ -12,9 +12,9 @@ use Rattle.book.specs.Terms.{standing_of}
 abbrev pub year_by : Standing → MeterYear → Year
 year_by standing y = record { standing = standing; leap = y.leap; days = y.days; closings = y.closings }
 
--- all days of the closed months are posted
+-- each closed month has all of its days
 abbrev pub AllComplete : MeterYear → Type 0
-AllComplete y = (month : ℕ) → month < length y.closings → is_complete y.leap y.days month ≡ true
+AllComplete y = Complete (year_by not_opened y)
 
 -- once settled, all interim months are closed
 abbrev pub InterimClosed : Terms → MeterYear → Type 0

@@ -1,8 +1,8 @@
 -- The year as it is known from the calls that were accepted.
-use Rattle.std.specs.Prelude.{ℕ, ◌+◌, ◌-◌, Bool, true, false, ◌&&◌, List, [], length, replicate, None, nat_le}
+use Rattle.std.specs.Prelude.{◌≡◌, ℕ, ◌+◌, ◌-◌, ◌<◌, Bool, true, false, ◌&&◌, List, [], length, replicate, None, nat_le}
 use Rattle.std.specs.List.{range_with_len}
 use Rattle.gas.specs.declared.month.ClosingNumbers.{ClosingNumbers}
-use Rattle.history.specs.Days.{Places}
+use Rattle.history.specs.Days.{Places, is_complete}
 
 -- what the opening says of the interim rate: the increase, per mille, and the first and the last interim month
 pub record Opening : Type 0 where
@@ -57,6 +57,10 @@ open_months y = range_with_len (length y.closings) (12 - length y.closings)
 
 abbrev pub all_months : List ℕ
 all_months = range_with_len 0 12
+
+-- each closed month has all of its days
+abbrev pub Complete : Year → Type 0
+Complete y = (month : ℕ) → month < length y.closings → is_complete y.leap y.days month ≡ true
 
 -- the interim months run from the first to the last
 abbrev pub is_interim : Opening → ℕ → Bool
