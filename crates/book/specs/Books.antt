@@ -1,10 +1,10 @@
 -- What a book holds, and what is true of every book.
-use Rattle.std.specs.Prelude.{◌≤◌, Bool, List, length}
+use Rattle.std.specs.Prelude.{◌≤◌, Bool, List, [], length}
 use Rattle.gas.specs.declared.month.ClosingNumbers.{ClosingNumbers}
 use Rattle.history.specs.declared.lines.Line.{Line}
 use Rattle.history.specs.Calls.{State}
 use Rattle.history.specs.Days.{Places}
-use Rattle.history.specs.Year.{Standing}
+use Rattle.history.specs.Year.{Standing, unknown_year}
 use Rattle.book.specs.declared.table.LineTable.{LineTable}
 use Rattle.book.specs.declared.year.MeterYear.{MeterYear}
 use Rattle.book.specs.Tables.{Kept, Near}
@@ -19,20 +19,21 @@ pub record Contents : Type 0 where
 abbrev pub state_of : Standing → Contents → State
 state_of standing b = record { year = year_by standing b.year; lines = b.lines }
 
--- a book with other days, with other closings, and with another leap mark
+-- a book with other days, and with other closings
 abbrev pub with_days : Contents → Places → Contents
 with_days b days = record { year = record { leap = b.year.leap; days = days; closings = b.year.closings }; lines = b.lines }
 
 abbrev pub with_closings : Contents → List ClosingNumbers → Contents
 with_closings b closings = record { year = record { leap = b.year.leap; days = b.year.days; closings = closings }; lines = b.lines }
 
-abbrev pub with_leap : Contents → Bool → Contents
-with_leap b leap = record { year = record { leap = leap; days = b.year.days; closings = b.year.closings }; lines = b.lines }
+-- a book whose year begins
+abbrev pub begun : Contents → Bool → Contents
+begun b leap = record { year = record { leap = leap; days = unknown_year.days; closings = [] }; lines = b.lines }
 
 -- few: the closed months, which run from November on, are at most twelve
 -- complete: all their days are posted; each is lawful, as every day record is
 -- kept: the lines are fit, and their sums stand in the table
--- near: under each heading the lines add up to no more than a target can be, so that no sum runs over
+-- near: under each heading that is brought to targets the lines add up to no more than a target can be, so that no sum runs over
 pub record Sound (y : MeterYear) (t : LineTable) : Type 0 where
   pub few : length y.closings ≤ 12
   pub complete : AllComplete y

@@ -1,12 +1,10 @@
 -- The year that a book's tables know.
-use Rattle.std.specs.Prelude.{◌≡◌, ℕ, ◌<◌, true, length, Option, slice_index_or, unwrap_or}
+use Rattle.std.specs.Prelude.{ℕ, Option, slice_index_or, unwrap_or}
 use Rattle.gas.specs.Facts.{MonthFacts}
 use Rattle.history.specs.Days.{day_of_first, month_days}
-use Rattle.history.specs.Prices.{nothing_charged}
-use Rattle.history.specs.Year.{Complete, Standing, Year, is_settled, not_opened}
-use Rattle.book.specs.declared.terms.Terms.{Terms}
+use Rattle.history.specs.Prices.{no_rates}
+use Rattle.history.specs.Year.{Complete, Standing, Year, not_opened}
 use Rattle.book.specs.declared.year.MeterYear.{MeterYear}
-use Rattle.book.specs.Terms.{standing_of}
 
 -- the year as known, by the standing of an account and its tables
 abbrev pub year_by : Standing → MeterYear → Year
@@ -16,16 +14,12 @@ year_by standing y = record { standing = standing; leap = y.leap; days = y.days;
 abbrev pub AllComplete : MeterYear → Type 0
 AllComplete y = Complete (year_by not_opened y)
 
--- once settled, all interim months are closed
-abbrev pub InterimClosed : Terms → MeterYear → Type 0
-InterimClosed t y = is_settled (standing_of t) ≡ true → t.opening.last.number < length y.closings
-
 -- the facts of a closed month, by the place of the year's first unauthorized day and the increase in force
 abbrev pub month_facts : MeterYear → Option ℕ → ℕ → ℕ → MonthFacts
 month_facts y first increase month = record {
   numbers = record {
     month = month;
-    closing = slice_index_or y.closings month nothing_charged;
+    closing = slice_index_or y.closings month no_rates;
     increase = increase;
     first = unwrap_or (day_of_first y.leap first month) 0;
   };

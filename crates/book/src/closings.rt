@@ -1,7 +1,7 @@
 // The numbers that closed the months so far, from November on.
 ghost use Rattle.std.specs.Prelude.{◌≡◌, ◌<◌, [], ◌∷◌, ◌++◌, length, slice_index_or};
 ghost use Rattle.gas.specs.Month.{closing_numbers};
-ghost use Rattle.history.specs.Prices.{nothing_charged};
+ghost use Rattle.history.specs.Prices.{no_rates};
 
 use arrayvec::ArrayVec;
 use gas::Closing;
@@ -42,7 +42,7 @@ impl Closings {
     // What closed a month.
     pub fn get(&self, month: u8) -> Closing
         requires { month < length self.now }
-        ensures { closing_numbers result ≡ slice_index_or self.now month nothing_charged }
+        ensures { closing_numbers result ≡ slice_index_or self.now month no_rates }
     {
         self.months[month as usize]
     }

@@ -8,7 +8,6 @@ use Rattle.gas.specs.declared.items.ScheduleFault.{ScheduleFault}
 use Rattle.gas.specs.declared.month.ClosingNumbers.{ClosingNumbers}
 use Rattle.gas.specs.Calendar.{month_length}
 use Rattle.gas.specs.Inputs.{closes, last_month, lawful_day, whole}
-use Rattle.gas.specs.Limits.{furthest}
 use Rattle.history.specs.declared.faults.AccountFault.{AccountFault}
 use Rattle.history.specs.declared.faults.AccountFault.TheVariants as fault
 use Rattle.history.specs.declared.lines.Heading.TheVariants as heading
@@ -17,7 +16,7 @@ use Rattle.history.specs.Days.{Places, day_of, is_complete, place_of}
 use Rattle.history.specs.Due.{due_in}
 use Rattle.history.specs.Headings.{line_of}
 use Rattle.history.specs.Prices.{Tariff}
-use Rattle.history.specs.Year.{Opening, Settlement, Standing, Year, is_opened, is_settled, not_opened, opening_of, running, settled}
+use Rattle.history.specs.Year.{Opening, Settlement, Standing, Year, is_opened, is_settled, not_opened, opening_of, running, settled, unknown_year}
 
 -- a call with its numbers as they came, lawful or not
 pub data Call : Type 0 where
@@ -61,7 +60,11 @@ day_tests y month day n state =
 abbrev pub is_posted : Year → ℕ → ℕ → Bool
 is_posted y month day = is_some (slice_index_or y.days (place_of month day) None)
 
--- 20 and 21 first, then the input's by number, then the other ones of the state by number
+-- the most that can be paid at once, 10^13
+abbrev pub most_paid : ℕ
+most_paid = 10000000000000
+
+-- first whether the account is opened, then what is wrong with the input, lowest number first, then what else the state refuses, likewise
 abbrev pub tests : Call → Year → Tests
 tests (opening leap o) y =
     (not (is_opened y.standing), fault.OpenedAlready) ∷ lawful (nat_le o.first last_month && (nat_le o.last last_month && nat_le o.first o.last)) input.Month ∷
@@ -71,7 +74,7 @@ tests (correction month day n) y = day_tests y month day n (is_posted y month da
 tests (closing month numbers) y =
     opened y ∷ lawful (nat_le month last_month) input.Month ∷ lawful (closes numbers) input.Quantity ∷
     ((month == length y.closings), fault.NotEarliest) ∷ (is_complete y.leap y.days month, fault.LacksDay) ∷ []
-tests (payment amount) y = opened y ∷ (nat_le 1 amount && nat_le amount furthest, fault.Payment) ∷ []
+tests (payment amount) y = opened y ∷ (nat_le 1 amount && nat_le amount most_paid, fault.Payment) ∷ []
 tests (settling t) y =
     opened y ∷ lawful (nat_le t.final whole && nat_le t.interest whole) input.PerMille ∷ (not (is_settled y.standing), fault.SettledAlready) ∷
     (nat_lt (opening_of y.standing).last (length y.closings), fault.InterimOpen) ∷ []
@@ -88,36 +91,16 @@ settled_by t (settled o old) = settled o old
 
 -- a year with the record of a day, posted or put in another's place
 abbrev pub with_day : Year → ℕ → ℕ → DayNumbers → Year
-with_day y month day n = record {
-  standing = y.standing;
-  leap = y.leap;
-  days = stored (day_of n) y.days (place_of month day);
-  closings = y.closings;
-}
+with_day y month day n = record y { days = stored (day_of n) y.days (place_of month day) }
 
--- the year as known after a call that was accepted
+-- the year as known after a call that was accepted; an opening begins it
 abbrev pub learned : Call → Year → Year
-learned (opening leap o) y = record {
-  standing = running o;
-  leap = (leap == 1);
-  days = y.days;
-  closings = y.closings;
-}
+learned (opening leap o) y = record unknown_year { standing = running o; leap = (leap == 1) }
 learned (posting month day n) y = with_day y month day n
 learned (correction month day n) y = with_day y month day n
-learned (closing month numbers) y = record {
-  standing = y.standing;
-  leap = y.leap;
-  days = y.days;
-  closings = y.closings ++ (numbers ∷ []);
-}
+learned (closing month numbers) y = record y { closings = y.closings ++ (numbers ∷ []) }
 learned (payment amount) y = y
-learned (settling t) y = record {
-  standing = settled_by t y.standing;
-  leap = y.leap;
-  days = y.days;
-  closings = y.closings;
-}
+learned (settling t) y = record y { standing = settled_by t y.standing }
 
 abbrev pub by_account : {A : Type 0} → Result A ScheduleFault → Result A AccountFault
 by_account (Ok a) = Ok a

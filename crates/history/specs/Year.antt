@@ -1,5 +1,5 @@
 -- The year as it is known from the calls that were accepted.
-use Rattle.std.specs.Prelude.{◌≡◌, ℕ, ◌+◌, ◌-◌, ◌<◌, Bool, true, false, ◌&&◌, List, [], length, replicate, None, nat_le}
+use Rattle.std.specs.Prelude.{◌≡◌, ℕ, ◌+◌, ◌-◌, ◌<◌, min, Bool, true, false, ◌&&◌, List, [], length, replicate, None, nat_le}
 use Rattle.std.specs.List.{range_with_len}
 use Rattle.gas.specs.declared.month.ClosingNumbers.{ClosingNumbers}
 use Rattle.history.specs.Days.{Places, is_complete}
@@ -66,5 +66,6 @@ Complete y = (month : ℕ) → month < length y.closings → is_complete y.leap 
 abbrev pub is_interim : Opening → ℕ → Bool
 is_interim o month = nat_le o.first month && nat_le month o.last
 
-abbrev pub interim_months : Opening → List ℕ
-interim_months o = range_with_len o.first (o.last + 1 - o.first)
+-- the interim months that are closed; once an account is settled, these are all of them
+abbrev pub closed_interim : Year → List ℕ
+closed_interim y = range_with_len (opening_of y.standing).first (min ((opening_of y.standing).last + 1) (length y.closings) - (opening_of y.standing).first)
