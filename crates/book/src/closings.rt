@@ -1,5 +1,5 @@
 // The numbers that closed the months so far, from November on.
-ghost use Rattle.std.specs.Prelude.{◌≡◌, ◌<◌, [], ◌∷◌, ◌++◌, length, slice_index_or};
+ghost use Rattle.std.specs.Prelude.{◌≡◌, ◌-◌, ◌<◌, [], ◌∷◌, ◌++◌, length, slice_index_or, take};
 ghost use Rattle.gas.specs.Month.{closing_numbers};
 ghost use Rattle.history.specs.Prices.{no_rates};
 
@@ -53,5 +53,12 @@ impl Closings {
         ensures { self.new ≡ self.old ++ closing_numbers closing ∷ [] }
     {
         self.months.push(closing);
+    }
+
+    // Takes the last closing away.
+    pub fn pop(&mut self)
+        ensures { self.new ≡ take (length self.old - 1) self.old }
+    {
+        self.months.pop();
     }
 }

@@ -16,3 +16,5 @@ mod targets;
 mod terms;
 mod therms;
 mod year;
+
+pub use book::Book;
