@@ -11,7 +11,7 @@ use gas::{DayRecord, Month};
 use std::marker::Model;
 use std::mem;
 
-// What stands at each place of the year, in memory of a fixed size. A contract sees it as the list of these.
+// What stands at each place of the year, in memory of a fixed size. A contract sees it as the list of these; that there are 372 is the size of the array, and all that is said of it here.
 #[derive(Drop)]
 pub struct DayTable {
     places: [Option<DayRecord>; 372],
