@@ -56,9 +56,9 @@ balanced_therms lines = sum_z (λ l. if heading_item l.heading == item_number Mo
 abbrev pub interim_lines : Opening → List Line → ℤ
 interim_lines o lines = sum_z (λ l. if is_interim o (heading_month l.heading) then money_on l else pos 0) lines
 
--- months: in each closed month each item's lines add up to its price in the year as known
--- therms: those on monthly balancing lines and the open ones are receipts less readings of all posted days
--- settlement: once settled, the interim months' lines and the refund lines are the lesser of the interim and the final price
+-- months: the lines under an item of a closed month sum to the item's price, which is no fault
+-- therms: what all monthly balancing lines carry and what is open make up the net therms of all posted days
+-- settlement: once settled, what stands under the interim months and under the refund is the smaller of the two prices
 pub record AddsUp (s : Tariff) (y : Year) (lines : List Line) (still_open : ℤ) : Type 0 where
   pub months : (month : ℕ) (item : Item) → month < length y.closings → price_of s y month item ≡ Ok (sum_under money_on (Priced month item) lines)
   pub therms : balanced_therms lines +ℤ still_open ≡ all_therms y
