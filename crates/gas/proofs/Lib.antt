@@ -1,3 +1,4 @@
 pub mod Lawful
+pub mod Made
 pub mod Money
 pub mod Sums

@@ -2,11 +2,12 @@
 -- Words:
 -- `nominated`, `received`, `metered` and `after_notice_of`, a lawful day's quantities in therms
 -- `supply_cost_of` and `variance_rate_of`, in millicents per therm
-use Rattle.std.specs.Prelude.{ℕ, Bool, if◌then◌else◌}
+use Rattle.std.specs.Prelude.{ℕ}
 use Rattle.gas.specs.declared.day.DayKind.{DayKind}
 use Rattle.gas.specs.declared.day.DayKind.TheVariants.{Normal, Sul, Sol, Critical}
 use Rattle.gas.specs.declared.day.DayNumbers.{DayNumbers}
 use Rattle.gas.specs.declared.day.DayRecord.{DayRecord}
+use Rattle.gas.specs.Inputs.{mark_number}
 
 abbrev pub nominated : DayRecord → ℕ
 nominated d = d.nomination.count
@@ -32,10 +33,6 @@ kind_number Normal = 0
 kind_number Sul = 1
 kind_number Sol = 2
 kind_number Critical = 3
-
--- the number of a mark
-abbrev pub mark_number : Bool → ℕ
-mark_number b = if b then 1 else 0
 
 -- the eight numbers of which a lawful day was made
 abbrev pub numbers_of : DayRecord → DayNumbers

@@ -49,6 +49,10 @@ checked_month n = unless (nat_le n last_month) Month n
 abbrev pub checked_kind : ℕ → Result ℕ InputFault
 checked_kind n = unless (nat_le n 3) DayKind n
 
+-- the number of a mark
+abbrev pub mark_number : Bool → ℕ
+mark_number b = if b then 1 else 0
+
 -- a mark is 0 or 1
 abbrev pub checked_mark : ℕ → Result ℕ InputFault
 checked_mark n = unless (nat_le n 1) Mark n

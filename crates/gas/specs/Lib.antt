@@ -5,5 +5,6 @@ pub mod Faults
 pub mod Inputs
 pub mod Items
 pub mod Limits
+pub mod Made
 pub mod Money
 pub mod Month

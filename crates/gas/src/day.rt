@@ -1,8 +1,9 @@
 // A meter day: its numbers as they came, and the lawful record that is made of them.
 ghost use Rattle.std.specs.Prelude.{◌≡◌, ◌≤◌};
-ghost use Rattle.gas.specs.Inputs.{checked_day, checked_kind, checked_mark, checked_therms, read};
+ghost use Rattle.gas.specs.Inputs.{checked_day, checked_kind, checked_therms, read};
 
 use crate::faults::InputFault;
+use crate::marks::mark;
 use crate::units::{Rate, Therms};
 
 const MOST_A_DAY: u32 = 200_000;
@@ -76,21 +77,6 @@ fn quantity(count: u32, most: u32) -> Result<Therms, InputFault>
     Ok(Therms { count })
 }
 
-impl DayRecord {
-    ghost use Rattle.gas.specs.Day.{mark_number};
-
-    // Whether the day is curtailed. A function, since a `bool` can have no conversion of ours.
-    fn mark(number: u8) -> Result<bool, InputFault>
-        ensures { read mark_number result ≡ checked_mark number }
-    {
-        match number {
-            0 => Ok(false),
-            1 => Ok(true),
-            _ => Err(InputFault::Mark),
-        }
-    }
-}
-
 // A normal day on which nothing flowed, at no price.
 impl Default for DayRecord {
     ghost use Rattle.gas.specs.Day.{numbers_of};
@@ -121,7 +107,7 @@ impl TryFrom<DayNumbers> for DayRecord {
 
     fn try_from(numbers: DayNumbers) -> Result<DayRecord, InputFault> {
         let kind = DayKind::try_from(numbers.kind)?;
-        let curtailed = DayRecord::mark(numbers.curtailed)?;
+        let curtailed = mark(numbers.curtailed)?;
         let reading = quantity(numbers.reading, MOST_A_DAY)?;
         Ok(DayRecord {
             kind,

@@ -12,7 +12,8 @@ use Rattle.history.specs.declared.faults.AccountFault.{AccountFault}
 use Rattle.history.specs.declared.faults.AccountFault.TheVariants as fault
 use Rattle.history.specs.declared.lines.Heading.TheVariants as heading
 use Rattle.history.specs.declared.lines.Line.{Line}
-use Rattle.history.specs.Days.{Places, day_of, is_complete, place_of}
+use Rattle.gas.specs.Made.{day_of}
+use Rattle.history.specs.Days.{Places, is_complete, place_of}
 use Rattle.history.specs.Due.{due_in}
 use Rattle.history.specs.Headings.{line_of}
 use Rattle.history.specs.Prices.{Tariff}

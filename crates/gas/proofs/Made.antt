@@ -1,0 +1,56 @@
+-- A lawful day is the one that its numbers make.
+use Rattle.std.proofs.Common.{◌≡◌, ℕ, Bool, true, false, cond, eqb, Ok, Err, Result, refl, sym, ap, subst, arith}
+use Rattle.std.proofs.Math.Bridge.{le_prop}
+use Rattle.gas.specs.declared.day.DayKind.{DayKind}
+use Rattle.gas.specs.declared.day.DayKind.TheVariants.{Normal, Sul, Sol, Critical}
+use Rattle.gas.specs.declared.day.DayNumbers.{DayNumbers}
+use Rattle.gas.specs.declared.day.DayRecord.{DayRecord}
+use Rattle.gas.specs.declared.faults.InputFault.{InputFault}
+use Rattle.gas.specs.declared.faults.InputFault.TheVariants as input
+use Rattle.gas.specs.Day.{kind_number, numbers_of}
+use Rattle.gas.specs.Inputs.{checked_day, lawful_day, mark_number, read, unless}
+use Rattle.gas.specs.Made.{day_of, day_tested, kind_of, made_day}
+
+same_kind : (k : DayKind) → kind_of (kind_number k) ≡ k
+same_kind Normal = refl
+same_kind Sul = refl
+same_kind Sol = refl
+same_kind Critical = refl
+
+same_mark : (b : Bool) → eqb (mark_number b) 1 ≡ b
+same_mark true = refl
+same_mark false = refl
+
+-- there is one proof at most of each limit
+same_made : (d : DayRecord) (ok : lawful_day (numbers_of d) ≡ true) → made_day (numbers_of d) ok ≡ d
+same_made d ok =
+    let made = made_day (numbers_of d) ok in
+    λ i. record {
+      kind = same_kind d.kind i;
+      curtailed = same_mark d.curtailed i;
+      nomination = d.nomination;
+      receipts = d.receipts;
+      reading = d.reading;
+      after_notice = d.after_notice;
+      supply_cost = record { price = d.supply_cost.price; within = le_prop made.supply_cost.within d.supply_cost.within i };
+      variance_rate = record { price = d.variance_rate.price; within = le_prop made.variance_rate.within d.variance_rate.within i };
+      nominated = le_prop made.nominated d.nominated i;
+      received = le_prop made.received d.received i;
+      metered = le_prop made.metered d.metered i;
+      part = le_prop made.part d.part i;
+    }
+
+tested : (n : DayNumbers) (r : Result DayRecord InputFault) (b : Bool) (e : lawful_day n ≡ b) → read numbers_of r ≡ unless b input.Quantity n → r ≡ day_tested n b e
+tested n (Ok d) true e h = let same : numbers_of d ≡ n = cc in subst (λ (m : DayNumbers). (ok : lawful_day m ≡ true) → Ok d ≡ day_tested m true ok) same (λ ok. ap Ok (sym (same_made d ok))) e
+tested n (Err f) true e h = absurd (let z : ◌≡◌ {A = ℕ} 0 1 = cc in omega arith)
+tested n (Ok d) false e h = absurd (let z : ◌≡◌ {A = ℕ} 0 1 = cc in omega arith)
+tested n (Err f) false e h = cc
+
+-- where the kind or the mark is refused, nothing is made
+gated : (ok : Bool) (r made : Result DayRecord InputFault) (read_as : Result DayNumbers InputFault) (f : InputFault) → (read numbers_of r ≡ read_as → r ≡ made) → read numbers_of r ≡ cond ok read_as (Err f) → r ≡ cond ok made (Err f)
+gated true r made read_as f passes h = passes h
+gated false (Ok d) made read_as f passes h = absurd (let z : ◌≡◌ {A = ℕ} 0 1 = cc in omega arith)
+gated false (Err e) made read_as f passes h = cc
+
+pub day_of_made : (n : DayNumbers) (r : Result DayRecord InputFault) → read numbers_of r ≡ checked_day n → r ≡ day_of n
+day_of_made n r h = gated _ r _ _ input.DayKind (gated _ r _ _ input.Mark (tested n r (lawful_day n) refl)) h

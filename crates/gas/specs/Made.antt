@@ -1,0 +1,43 @@
+-- The lawful day that numbers make.
+use Rattle.std.specs.Prelude.{◌≡◌, ℕ, Bool, true, false, if◌then◌else◌, [], ◌∷◌, Ok, Err, Result, ◌==◌, nat_le, slice_index_or, refl}
+use Rattle.std.proofs.lemmas.Bool.{and_parts, leb-true}
+use Rattle.gas.specs.declared.day.DayKind.{DayKind}
+use Rattle.gas.specs.declared.day.DayKind.TheVariants as kind
+use Rattle.gas.specs.declared.day.DayNumbers.{DayNumbers}
+use Rattle.gas.specs.declared.day.DayRecord.{DayRecord}
+use Rattle.gas.specs.declared.faults.InputFault.{InputFault}
+use Rattle.gas.specs.declared.faults.InputFault.TheVariants as input
+use Rattle.gas.specs.Inputs.{lawful_day, most_a_day, most_per_therm}
+
+abbrev pub kind_of : ℕ → DayKind
+kind_of k = slice_index_or (kind.Normal ∷ kind.Sul ∷ kind.Sol ∷ kind.Critical ∷ []) k kind.Normal
+
+abbrev pub made_day : (n : DayNumbers) → lawful_day n ≡ true → DayRecord
+made_day n ok =
+    let one = and_parts (nat_le n.nomination most_a_day) _ ok in
+    let two = and_parts (nat_le n.receipts most_a_day) _ one.1 in
+    let three = and_parts (nat_le n.reading most_a_day) _ two.1 in
+    let four = and_parts (nat_le n.after_notice n.reading) _ three.1 in
+    let five = and_parts (nat_le n.supply_cost most_per_therm) _ four.1 in
+    record {
+      kind = kind_of n.kind;
+      curtailed = (n.curtailed == 1);
+      nomination = record { count = n.nomination };
+      receipts = record { count = n.receipts };
+      reading = record { count = n.reading };
+      after_notice = record { count = n.after_notice };
+      supply_cost = record { price = n.supply_cost; within = leb-true _ _ five.0 };
+      variance_rate = record { price = n.variance_rate; within = leb-true _ _ five.1 };
+      nominated = leb-true _ _ one.0;
+      received = leb-true _ _ two.0;
+      metered = leb-true _ _ three.0;
+      part = leb-true _ _ four.0;
+    }
+
+abbrev pub day_tested : (n : DayNumbers) (ok : Bool) → lawful_day n ≡ ok → Result DayRecord InputFault
+day_tested n true e = Ok (made_day n e)
+day_tested n false e = Err input.Quantity
+
+-- the day that numbers make, or their refusal: the kind first, then the mark, then the quantities
+abbrev pub day_of : DayNumbers → Result DayRecord InputFault
+day_of n = if nat_le n.kind 3 then (if nat_le n.curtailed 1 then day_tested n (lawful_day n) refl else Err input.Mark) else Err input.DayKind
