@@ -1,11 +1,16 @@
 pub mod Balances
+pub mod ClosedMonths
 pub mod Collecting
 pub mod Differences
 pub mod Interim
 pub mod Nearness
 pub mod OpenMonths
+pub mod Outcomes
+pub mod Paying
+pub mod Payments
 pub mod PeakDays
 pub mod Pricing
 pub mod Scanning
+pub mod Settled
 pub mod Soundness
 pub mod Standings

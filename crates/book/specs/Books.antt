@@ -1,8 +1,8 @@
 -- What a book holds, and what is true of every book.
-use Rattle.std.specs.Prelude.{◌≤◌, Bool, List, [], length}
+use Rattle.std.specs.Prelude.{◌≤◌, Bool, List, [], ◌∷◌, ◌++◌, length}
 use Rattle.gas.specs.declared.month.ClosingNumbers.{ClosingNumbers}
 use Rattle.history.specs.declared.lines.Line.{Line}
-use Rattle.history.specs.Calls.{State}
+use Rattle.history.specs.Calls.{State, most_lines}
 use Rattle.history.specs.Days.{Places}
 use Rattle.history.specs.Year.{Standing, unknown_year}
 use Rattle.book.specs.declared.table.LineTable.{LineTable}
@@ -26,6 +26,10 @@ with_days b days = record { year = record { leap = b.year.leap; days = days; clo
 abbrev pub with_closings : Contents → List ClosingNumbers → Contents
 with_closings b closings = record { year = record { leap = b.year.leap; days = b.year.days; closings = closings }; lines = b.lines }
 
+-- a book with one line more
+abbrev pub with_line : Contents → Line → Contents
+with_line b line = record { year = b.year; lines = b.lines ++ line ∷ [] }
+
 -- a book whose year begins
 abbrev pub begun : Contents → Bool → Contents
 begun b leap = record { year = record { leap = leap; days = unknown_year.days; closings = [] }; lines = b.lines }
@@ -33,9 +37,11 @@ begun b leap = record { year = record { leap = leap; days = unknown_year.days; c
 -- few: the closed months, which run from November on, are at most twelve
 -- complete: all their days are posted; each is lawful, as every day record is
 -- kept: the lines are fit, and their sums stand in the table
+-- room: there are at most as many lines as there is room for
 -- near: under each heading that is brought to targets the lines add up to no more than a target can be, so that no sum runs over
 pub record Sound (y : MeterYear) (t : LineTable) : Type 0 where
   pub few : length y.closings ≤ 12
   pub complete : AllComplete y
   pub kept : Kept t
+  pub room : length t.lines.items ≤ most_lines
   pub near : Near t.lines.items

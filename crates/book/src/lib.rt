@@ -3,9 +3,11 @@
 
 mod book;
 mod closings;
+mod dated;
 mod days;
 mod due;
 mod first;
+mod payment;
 mod peak;
 mod places;
 mod questions;
@@ -18,3 +20,4 @@ mod therms;
 mod year;
 
 pub use book::Book;
+pub use terms::{OpeningTerms, SettlementTerms, Terms};

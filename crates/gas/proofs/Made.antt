@@ -54,3 +54,6 @@ gated false (Err e) made read_as f passes h = cc
 
 pub day_of_made : (n : DayNumbers) (r : Result DayRecord InputFault) → read numbers_of r ≡ checked_day n → r ≡ day_of n
 day_of_made n r h = gated _ r _ _ input.DayKind (gated _ r _ _ input.Mark (tested n r (lawful_day n) refl)) h
+
+pub made_of : (n : DayNumbers) (d : DayRecord) → Ok (numbers_of d) ≡ checked_day n → Ok d ≡ day_of n
+made_of n d h = day_of_made n (Ok d) h

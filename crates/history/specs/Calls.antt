@@ -53,10 +53,13 @@ abbrev pub opened : Year → Bool × AccountFault
 opened y = (is_opened y.standing, fault.NotOpened)
 
 -- a month, a day of it, and the day's kind, mark and quantities
+abbrev pub day_input : Bool → ℕ → ℕ → DayNumbers → Tests
+day_input leap month day n =
+    lawful (nat_le month last_month) input.Month ∷ lawful (nat_le 1 day && nat_le day (month_length leap month)) input.Day ∷
+    lawful (nat_le n.kind 3) input.DayKind ∷ lawful (nat_le n.curtailed 1) input.Mark ∷ lawful (lawful_day n) input.Quantity ∷ []
+
 abbrev pub day_tests : Year → ℕ → ℕ → DayNumbers → Bool × AccountFault → Tests
-day_tests y month day n state =
-    opened y ∷ lawful (nat_le month last_month) input.Month ∷ lawful (nat_le 1 day && nat_le day (month_length y.leap month)) input.Day ∷
-    lawful (nat_le n.kind 3) input.DayKind ∷ lawful (nat_le n.curtailed 1) input.Mark ∷ lawful (lawful_day n) input.Quantity ∷ state ∷ []
+day_tests y month day n state = opened y ∷ (day_input y.leap month day n ++ (state ∷ []))
 
 abbrev pub is_posted : Year → ℕ → ℕ → Bool
 is_posted y month day = is_some (slice_index_or y.days (place_of month day) None)

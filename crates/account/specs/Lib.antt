@@ -1,0 +1,3 @@
+pub mod Calls
+pub mod Holdings
+pub mod Standings

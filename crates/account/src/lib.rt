@@ -1,0 +1,9 @@
+// The gas account: its six calls, its questions, and the playing of a journal.
+#![tactic(auto)]
+
+mod account;
+mod faults;
+mod standing;
+
+pub use account::Account;
+pub use faults::{JournalFault, Refusal};

@@ -1,0 +1,61 @@
+-- What closing a month leaves is the outcome of the call.
+use Rattle.std.proofs.Common.{◌≡◌, ℕ, ◌-◌, true, false, eqb, leb, List, [], ◌∷◌, ◌++◌, length, take, None, Ok, Err, length-append, eq-eqb, refl, sym, ap, ◌∙◌, arith}
+use Rattle.std.proofs.Math.Seq.{take-append_seam}
+use Rattle.std.proofs.lemmas.Bool.Decides.{nat_tests}
+use Rattle.gas.specs.declared.faults.InputFault.{InputFault}
+use Rattle.gas.specs.declared.faults.InputFault.TheVariants as input
+use Rattle.gas.specs.declared.month.ClosingNumbers.{ClosingNumbers}
+use Rattle.gas.specs.Inputs.{checked_closing, checked_month, closes}
+use Rattle.history.specs.declared.faults.AccountFault.TheVariants as fault
+use Rattle.history.specs.declared.lines.Line.{Line}
+use Rattle.history.specs.Calls.{by_account, closing, first_failing, outcome, tests, with_lines}
+use Rattle.history.specs.Days.{is_complete}
+use Rattle.history.specs.Due.{due_in}
+use Rattle.history.specs.Prices.{Tariff}
+use Rattle.history.specs.Year.{Standing, is_opened}
+use Rattle.book.specs.declared.year.MeterYear.{MeterYear}
+use Rattle.book.specs.Books.{Contents, state_of, with_closings}
+use Rattle.book.specs.Years.{year_by}
+use Rattle.book.proofs.Outcomes.{passed, refused, taken, untaken}
+
+-- a closing, in an account that was opened
+module _ (y : MeterYear) (lines : List Line) (b : Contents) (same : record { year = y; lines = lines } ≡ b) (month : ℕ) (n : ClosingNumbers) (s : Tariff) (t : Standing) (opened : is_opened t ≡ true) where
+  pub month_refused : (f : InputFault) → Err f ≡ checked_month month → Err (fault.Input f) ≡ outcome s (closing month n) (state_of t b)
+  month_refused f e =
+      let test = untaken (leb month 11) f input.Month month e in
+      refused s (closing month n) (state_of t b) (fault.Input f) (rw (opened, test.0, test.1) refl)
+
+  module _ (m : ℕ) (of_month : Ok m ≡ checked_month month) where
+    pub closing_refused : (f : InputFault) → Err f ≡ checked_closing n → Err (fault.Input f) ≡ outcome s (closing month n) (state_of t b)
+    closing_refused f e =
+        let test = untaken (closes n) f input.Quantity n e in
+        let first = taken (leb month 11) input.Month m month of_month in
+        refused s (closing month n) (state_of t b) (fault.Input f) (rw (opened, first.0, test.0, test.1) refl)
+
+    module _ (c : ClosingNumbers) (of_rates : Ok c ≡ checked_closing n) where
+      lawful_input : first_failing (tests (closing month n) (year_by t b.year)) ≡ first_failing ((eqb m (length b.year.closings), fault.NotEarliest) ∷ (is_complete b.year.leap b.year.days m, fault.LacksDay) ∷ [])
+      lawful_input =
+          let first = taken (leb month 11) input.Month m month of_month in
+          let second = taken (closes n) input.Quantity c n of_rates in
+          rw (opened, first.0, second.0, first.1) refl
+
+      pub not_earliest : (m ≡ length y.closings → ⊥) → Err fault.NotEarliest ≡ outcome s (closing month n) (state_of t b)
+      not_earliest other =
+          let test : eqb m (length y.closings) ≡ false = grind (arith, nat_tests) in
+          refused s (closing month n) (state_of t b) fault.NotEarliest (lawful_input ∙ rw (sym same, test) refl)
+
+      pub lacks_day : m ≡ length y.closings → is_complete y.leap y.days m ≡ false → Err fault.LacksDay ≡ outcome s (closing month n) (state_of t b)
+      lacks_day next lacks = refused s (closing month n) (state_of t b) fault.LacksDay (lawful_input ∙ rw (sym same, lacks, eq-eqb _ _ next) refl)
+
+      pub closed : (put : Contents) → m ≡ length y.closings → is_complete y.leap y.days m ≡ true → put ≡ with_closings b (b.year.closings ++ c ∷ []) →
+          with_lines (year_by t put.year) put.lines (by_account (due_in s (year_by t put.year) put.lines)) ≡ outcome s (closing month n) (state_of t b)
+      closed put next complete is_put =
+          let passes : first_failing (tests (closing month n) (year_by t b.year)) ≡ None = lawful_input ∙ rw (sym same, complete, eq-eqb _ _ next) refl in
+          rw is_put (sym (passed s (closing month n) (state_of t b) passes ∙ rw (sym (taken (closes n) input.Quantity c n of_rates).1) refl))
+
+-- a book with its last month open again is the one before
+pub reopened : (b put brought after : Contents) (c : ClosingNumbers) → put ≡ with_closings b (b.year.closings ++ c ∷ []) → brought ≡ put → after ≡ with_closings brought (take (length brought.year.closings - 1) brought.year.closings) → after ≡ b
+reopened b put brought after c one two three =
+    let more = length-append b.year.closings (c ∷ []) in
+    let n : length (b.year.closings ++ c ∷ []) - 1 ≡ length b.year.closings = omega arith in
+    three ∙ rw (two, one, n) (ap (λ (cs : List ClosingNumbers). with_closings b cs) (take-append_seam b.year.closings (c ∷ [])))

@@ -1,0 +1,49 @@
+// The day of a posting or a correction, with the place where it belongs.
+ghost use Rattle.std.specs.Prelude.{◌≡◌, ◌&&◌, IfOk, Ok, nat_le};
+ghost use Rattle.std.specs.Result.{result_err};
+ghost use Rattle.gas.specs.Calendar.{month_length};
+ghost use Rattle.gas.specs.Made.{day_of};
+ghost use Rattle.history.specs.Calls.{day_input, first_failing};
+ghost use Rattle.history.specs.Days.{place_of};
+
+use crate::places::Place;
+use gas::{DayNumbers, DayRecord, InputFault, Month};
+use history::AccountFault;
+
+#[derive(Clone, Copy)]
+pub struct DatedDay {
+    pub place: Place,
+    pub record: DayRecord,
+}
+
+// Whether a month has a day of that number, counted from 1.
+fn has_day(month: Month, leap: bool, day: u8) -> bool
+    ensures { result ≡ (nat_le 1 day && nat_le day (month_length leap month.number)) }
+{
+    (1..=month.length(leap)).contains(&day)
+}
+
+impl DatedDay {
+    // A lawful day at its place in the year, or the first refusal: of the month, the day, the kind, the mark, the quantities.
+    #[tactic(auto, using(gas::proofs::Made::made_of))]
+    pub fn new(
+        leap: bool,
+        month: u8,
+        day: u8,
+        numbers: DayNumbers,
+    ) -> Result<DatedDay, AccountFault>
+        ensures refused { result_err result ≡ first_failing (day_input leap month day numbers) }
+        ensures place { IfOk result (λ d. d.place.index ≡ place_of month day) }
+        ensures made { IfOk result (λ d. Ok d.record ≡ day_of numbers) }
+    {
+        let month = Month::try_from(month)?;
+        if !has_day(month, leap, day) {
+            return Err(AccountFault::Input(InputFault::Day));
+        }
+        let record = DayRecord::try_from(numbers)?;
+        Ok(DatedDay {
+            place: Place::of(month, day),
+            record,
+        })
+    }
+}

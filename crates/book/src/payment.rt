@@ -1,0 +1,26 @@
+// The line of a payment.
+ghost use Rattle.std.specs.Prelude.{◌≡◌, ◌&&◌, nat_le, neg_ℤ, pos};
+ghost use Rattle.gas.specs.Inputs.{unless};
+ghost use Rattle.history.specs.declared.faults.AccountFault.TheVariants as faults;
+ghost use Rattle.history.specs.declared.lines.Heading.TheVariants as headings;
+ghost use Rattle.history.specs.Calls.{most_paid};
+ghost use Rattle.history.specs.Headings.{line_of};
+
+use crate::settlement::taken_off;
+use gas::Millicents;
+use history::{AccountFault, Heading, Line};
+
+const MOST_PAID: u64 = 10_000_000_000_000;
+
+// Takes off what is paid; refused are a payment of nothing and one above 10^13.
+pub fn payment_line(amount: u64) -> Result<Line, AccountFault>
+    ensures { result ≡ unless (nat_le 1 amount && nat_le amount most_paid) faults.Payment (line_of headings.Payment (pos 0) (neg_ℤ (pos amount))) }
+{
+    if !(1..=MOST_PAID).contains(&amount) {
+        return Err(AccountFault::Payment);
+    }
+    let paid = Millicents {
+        amount: amount as i64,
+    };
+    Ok(taken_off(Heading::Payment, paid))
+}
