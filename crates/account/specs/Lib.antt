@@ -1,3 +1,6 @@
 pub mod Calls
+pub mod Faults
 pub mod Holdings
+pub mod Journals
+pub mod Playing
 pub mod Standings

@@ -2,6 +2,9 @@
 ghost use Rattle.std.specs.Prelude.{◌≡◌, length};
 ghost use Rattle.history.specs.Runs.{new_state};
 
+mod calls;
+mod questions;
+
 use crate::standing::Standing;
 use book::Book;
 use gas::Schedule;

@@ -2,14 +2,62 @@
 use history::AccountFault;
 use journal::ReadFault;
 
+// A record could not be read, or the account refused it whole as it is told here; either with the place of the record's first byte.
 #[derive(Clone, Copy, Debug, PartialEq, Eq)]
 pub enum JournalFault {
     Unread { place: usize, fault: ReadFault },
     Refused { place: usize, fault: AccountFault },
 }
 
+// A refused record of a journal, by its number counted from 1.
 #[derive(Clone, Copy, Debug, PartialEq, Eq)]
 pub struct Refusal {
     pub number: usize,
     pub fault: JournalFault,
+}
+
+impl JournalFault {
+    ghost use Rattle.std.specs.Prelude.{◌≡◌};
+    ghost use Rattle.account.specs.Faults.{journal_values};
+
+    pub fn number(self) -> u8
+        ensures { result ≡ (journal_values self).0 }
+    {
+        match self {
+            JournalFault::Unread { fault, .. } => fault.number(),
+            JournalFault::Refused { fault, .. } => fault.number(),
+        }
+    }
+
+    pub fn place(self) -> usize
+        ensures { result ≡ (journal_values self).1 }
+    {
+        match self {
+            JournalFault::Unread { place, .. } | JournalFault::Refused { place, .. } => place,
+        }
+    }
+}
+
+// What a reader refuses at a place.
+impl From<(usize, ReadFault)> for JournalFault {
+    ghost use Rattle.std.specs.Prelude.{◌≡◌};
+    ghost use Rattle.account.specs.declared.faults.JournalFault.TheVariants.{Unread};
+
+    ghost from_gives = { λ e r. r ≡ Unread e.0 e.1 };
+
+    fn from((place, fault): (usize, ReadFault)) -> JournalFault {
+        JournalFault::Unread { place, fault }
+    }
+}
+
+// What an account refuses of a record at a place.
+impl From<(usize, AccountFault)> for JournalFault {
+    ghost use Rattle.std.specs.Prelude.{◌≡◌};
+    ghost use Rattle.account.specs.declared.faults.JournalFault.TheVariants.{Refused};
+
+    ghost from_gives = { λ e r. r ≡ Refused e.0 e.1 };
+
+    fn from((place, fault): (usize, AccountFault)) -> JournalFault {
+        JournalFault::Refused { place, fault }
+    }
 }

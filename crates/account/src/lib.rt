@@ -3,6 +3,7 @@
 
 mod account;
 mod faults;
+mod interim;
 mod standing;
 
 pub use account::Account;

@@ -1,0 +1,75 @@
+-- What the records of a journal make of an account.
+use Rattle.std.specs.Prelude.{ℕ, ◌+◌, List, [], ◌∷◌, ◌++◌, Some, None, Option}
+use Rattle.std.specs.Result.{result_err, result_unwrap_or}
+use Rattle.gas.specs.declared.day.DayNumbers.{DayNumbers}
+use Rattle.history.specs.declared.faults.AccountFault.{AccountFault}
+use Rattle.history.specs.Calls.{Call, State, closing, correction, opening, outcome, payment, posting, settling}
+use Rattle.history.specs.Prices.{Tariff}
+use Rattle.history.specs.Runs.{Entry, History}
+use Rattle.journal.specs.declared.faults.ReadFault.{ReadFault}
+use Rattle.journal.specs.declared.kinds.Day.{Day}
+use Rattle.journal.specs.declared.kinds.Placed.{Placed}
+use Rattle.journal.specs.declared.kinds.Record.{Record}
+use Rattle.journal.specs.declared.kinds.Record.TheVariants.{Open, Post, Correct, Close, Pay, Settle}
+use Rattle.journal.specs.Format.{record_length}
+use Rattle.account.specs.declared.faults.JournalFault.TheVariants.{Unread, Refused}
+use Rattle.account.specs.declared.faults.Refusal.{Refusal}
+
+-- what a day was, without its date
+abbrev pub numbers_in : Day → DayNumbers
+numbers_in d = record {
+  kind = d.kind;
+  curtailed = d.curtailed;
+  nomination = d.nomination;
+  receipts = d.receipts;
+  reading = d.reading;
+  after_notice = d.after_notice;
+  supply_cost = d.supply_cost;
+  variance_rate = d.variance_rate;
+}
+
+-- the call that a record is
+abbrev pub call_of : Record → Call
+call_of (Open leap increase first last) = opening leap (record { increase = increase; first = first; last = last })
+call_of (Post day) = posting day.month day.day (numbers_in day)
+call_of (Correct day) = correction day.month day.day (numbers_in day)
+call_of (Close month index interruptible firm) = closing month (record { index = index; interruptible = interruptible; firm = firm })
+call_of (Pay amount) = payment amount
+call_of (Settle final interest) = settling (record { final = final; interest = interest })
+
+-- a call with the answer that it gets from an account, and the account that it leaves
+abbrev pub entry_of : Tariff → State → Call → Entry
+entry_of s a c = record { call = c; refusal = result_err (outcome s c a) }
+
+abbrev pub left_by : Tariff → State → Call → State
+left_by s a c = result_unwrap_or (outcome s c a) a
+
+-- the history of an account, and the account, after records that were played one after another
+abbrev pub history_after : Tariff → History → State → List Placed → History
+history_after s h a [] = h
+history_after s h a (p ∷ ps) = history_after s (entry_of s a (call_of p.«record») ∷ h) (left_by s a (call_of p.«record»)) ps
+
+abbrev pub account_after : Tariff → State → List Placed → State
+account_after s a [] = a
+account_after s a (p ∷ ps) = account_after s (left_by s a (call_of p.«record»)) ps
+
+-- the place behind records of which the first stands at a place
+abbrev pub place_after : ℕ → List Placed → ℕ
+place_after place [] = place
+place_after place (p ∷ ps) = place_after (place + record_length p.«record») ps
+
+-- the refusal of record k at a place, if it was refused
+abbrev pub refused_at : ℕ → ℕ → Option AccountFault → List Refusal
+refused_at k place None = []
+refused_at k place (Some f) = record { number = k; fault = Refused place f } ∷ []
+
+-- where reading stopped at record k with a refusal, that one
+abbrev pub unread_at : ℕ → ℕ → Option ReadFault → List Refusal
+unread_at k place None = []
+unread_at k place (Some f) = record { number = k; fault = Unread place f } ∷ []
+
+-- what was refused of records of which the first, record k, stands at a place, in order
+abbrev pub refusals_of : Tariff → ℕ → ℕ → State → List Placed → Option ReadFault → List Refusal
+refusals_of s k place a [] end = unread_at k place end
+refusals_of s k place a (p ∷ ps) end =
+    refused_at k p.place (result_err (outcome s (call_of p.«record») a)) ++ refusals_of s (k + 1) (place + record_length p.«record») (left_by s a (call_of p.«record»)) ps end

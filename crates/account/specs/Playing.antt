@@ -1,0 +1,24 @@
+-- What playing a journal makes of an account, and the law on it.
+use Rattle.std.specs.Prelude.{◌≡◌, ℕ, List, Option}
+use Rattle.history.specs.Calls.{State}
+use Rattle.history.specs.Prices.{Tariff, open_therms}
+use Rattle.history.specs.Runs.{AddsUp, History, Run, known}
+use Rattle.journal.specs.declared.faults.ReadFault.{ReadFault}
+use Rattle.journal.specs.declared.kinds.Placed.{Placed}
+use Rattle.journal.specs.Reading.{Gives}
+use Rattle.account.specs.declared.faults.Refusal.{Refusal}
+use Rattle.account.specs.Journals.{account_after, history_after, refusals_of}
+
+-- records, end: what a reader gives from the journal's first byte on, and how it stops
+-- account: each record was played in order, on what the one before had left
+-- refused: just the refused ones are answered, and last the one that could not be read
+-- run: with these records, each with its answer, the account after goes on from every history of the account before
+-- adds_up: by all these histories, the lines of the account after and its open therms add up as the law says
+pub record Played (s : Tariff) (bytes : List ℕ) (a b : State) (refusals : List Refusal) : Type 0 where
+  pub records : List Placed
+  pub end : Option ReadFault
+  pub given : Gives bytes 0 records end
+  pub account : b ≡ account_after s a records
+  pub refused : refusals ≡ refusals_of s 1 0 a records end
+  pub run : (h : History) → Run s h a → Run s (history_after s h a records) b
+  pub adds_up : (h : History) → Run s h a → AddsUp s (known (history_after s h a records)) b.lines (open_therms b.year)

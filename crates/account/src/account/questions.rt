@@ -1,0 +1,50 @@
+// What an account answers to questions, of which none changes it.
+ghost use Rattle.std.specs.Prelude.{◌≡◌, length};
+ghost use Rattle.history.specs.Prices.{open_therms, tariff_by};
+ghost use Rattle.history.specs.Questions.{PeakAnswer, line_numbered, sum_of_all};
+ghost use Rattle.history.specs.Runs.{AddsUp, History, Run, RunsAddUp, known};
+
+use crate::account::Account;
+use gas::{Millicents, Month, Schedule};
+use history::{AccountFault, Line, NetTherms};
+
+impl<S: Schedule> Account<S> {
+    // How many lines there are.
+    pub fn line_count(&self) -> usize
+        ensures { result ≡ length self.now.state.lines }
+    {
+        self.book.line_count()
+    }
+
+    // The line of a number, counted from 1.
+    pub fn line(&self, number: usize) -> Result<Line, AccountFault>
+        ensures { result ≡ line_numbered self.now.state.lines number }
+    {
+        self.book.line(number)
+    }
+
+    // What all lines add up to in money.
+    pub fn total(&self) -> Millicents
+        ensures { result.amount ≡ sum_of_all self.now.state.lines }
+    {
+        self.book.total()
+    }
+
+    // Receipts less readings of the posted days of open months; and the law of all runs, of every account that the definitions make, and of this one by every history that has made it.
+    pub fn open_therms(&self) -> NetTherms
+        ensures is { result.count ≡ open_therms self.now.state.year }
+        ensures law { RunsAddUp }
+        ensures adds_up { (h : History) → Run (tariff_by (S.unauthorized self.now.schedule) (S.price self.now.schedule)) h self.now.state → AddsUp (tariff_by (S.unauthorized self.now.schedule) (S.price self.now.schedule)) (known h) self.now.state.lines result.count }
+    {
+        self.book.open_therms()
+    }
+
+    // A day of a month that no other of its days exceeds in its reading, if a day of it is posted.
+    pub fn peak_day(&self, month: u8) -> Result<Option<u8>, AccountFault>
+        ensures { PeakAnswer self.now.state.year month result }
+    {
+        self.standing.terms()?;
+        let month = Month::try_from(month)?;
+        Ok(self.book.peak_day(month))
+    }
+}
