@@ -1,0 +1,4 @@
+pub mod Answered
+pub mod Openings
+pub mod Settlements
+pub mod Entered

@@ -71,7 +71,7 @@ taken true g m a e = (refl, cc)
 taken false g m a e = absurd cc
 
 -- lines for which there is room are written
-fits : (y : Year) (lines more : List Line) → length lines + length more ≤ most_lines → with_lines y lines (Ok more) ≡ Ok (record { year = y; lines = lines ++ more })
+pub fits : (y : Year) (lines more : List Line) → length lines + length more ≤ most_lines → with_lines y lines (Ok more) ≡ Ok (record { year = y; lines = lines ++ more })
 fits y lines more room = let test : leb (length lines + length more) most_lines ≡ true = grind (arith, nat_tests) in rw test refl
 
 -- a posting, in any account that was opened

@@ -17,7 +17,7 @@ same_kind Sul = refl
 same_kind Sol = refl
 same_kind Critical = refl
 
-same_mark : (b : Bool) → eqb (mark_number b) 1 ≡ b
+pub same_mark : (b : Bool) → eqb (mark_number b) 1 ≡ b
 same_mark true = refl
 same_mark false = refl
 
