@@ -1,4 +1,5 @@
 pub mod Answered
+pub mod Entered
 pub mod Openings
 pub mod Settlements
-pub mod Entered
+pub mod Turns

@@ -1,5 +1,5 @@
 -- What the records of a journal make of an account.
-use Rattle.std.specs.Prelude.{ℕ, ◌+◌, List, [], ◌∷◌, ◌++◌, Some, None, Option}
+use Rattle.std.specs.Prelude.{ℕ, ◌+◌, List, [], ◌∷◌, ◌++◌, Some, None, Ok, Err, Option, Result}
 use Rattle.std.specs.Result.{result_err, result_unwrap_or}
 use Rattle.gas.specs.declared.day.DayNumbers.{DayNumbers}
 use Rattle.history.specs.declared.faults.AccountFault.{AccountFault}
@@ -12,6 +12,7 @@ use Rattle.journal.specs.declared.kinds.Placed.{Placed}
 use Rattle.journal.specs.declared.kinds.Record.{Record}
 use Rattle.journal.specs.declared.kinds.Record.TheVariants.{Open, Post, Correct, Close, Pay, Settle}
 use Rattle.journal.specs.Format.{record_length}
+use Rattle.account.specs.declared.faults.JournalFault.{JournalFault}
 use Rattle.account.specs.declared.faults.JournalFault.TheVariants.{Unread, Refused}
 use Rattle.account.specs.declared.faults.Refusal.{Refusal}
 
@@ -53,10 +54,15 @@ abbrev pub account_after : Tariff → State → List Placed → State
 account_after s a [] = a
 account_after s a (p ∷ ps) = account_after s (left_by s a (call_of p.«record»)) ps
 
--- the place behind records of which the first stands at a place
-abbrev pub place_after : ℕ → List Placed → ℕ
-place_after place [] = place
-place_after place (p ∷ ps) = place_after (place + record_length p.«record») ps
+-- what a reader at a place answers, a refusal with the place
+abbrev pub read_at : ℕ → Result (Option Placed) ReadFault → Result (Option Placed) JournalFault
+read_at place (Ok next) = Ok next
+read_at place (Err f) = Err (Unread place f)
+
+-- what is answered of a record at a place, by its refusal if it was refused
+abbrev pub entered_at : ℕ → Option AccountFault → Result (Unit {0}) JournalFault
+entered_at place None = Ok tt
+entered_at place (Some f) = Err (Refused place f)
 
 -- the refusal of record k at a place, if it was refused
 abbrev pub refused_at : ℕ → ℕ → Option AccountFault → List Refusal

@@ -3,6 +3,7 @@ ghost use Rattle.std.specs.Prelude.{◌≡◌, length};
 ghost use Rattle.history.specs.Runs.{new_state};
 
 mod calls;
+mod playing;
 mod questions;
 
 use crate::standing::Standing;

@@ -1,0 +1,64 @@
+// A whole journal played into an account.
+ghost use Rattle.std.specs.Prelude.{◌≡◌, IfOk, OnErr, vec_items};
+ghost use Rattle.history.specs.Prices.{tariff_by};
+ghost use Rattle.journal.specs.Reading.{answer, after};
+ghost use Rattle.account.specs.Journals.{call_of, entered_at, entry_of, left_by, read_at};
+ghost use Rattle.account.specs.Playing.{Played};
+
+use crate::account::Account;
+use crate::faults::{JournalFault, Refusal};
+use gas::Schedule;
+use journal::{Placed, Reader};
+use std::alloc::{AllocError, Global};
+
+// How many bytes the shortest record has.
+const LEAST_LENGTH: usize = 5;
+
+// The next record of a journal, or none at its end; a refusal comes with the place.
+fn next_record(reader: &mut Reader) -> Result<Option<Placed>, JournalFault>
+    ensures answers { result ≡ read_at reader.old.at (answer reader.old.bytes.now reader.old.at) }
+    ensures moves { reader.new.at ≡ after reader.old.bytes.now reader.old.at }
+    ensures same { reader.new.bytes ≡ reader.old.bytes }
+{
+    let place = reader.place();
+    Ok(reader.next().map_err(|fault| (place, fault))?)
+}
+
+impl<S: Schedule> Account<S> {
+    // Takes in a record of a journal; a refusal comes with its place.
+    fn enter_placed(&mut self, placed: &Placed) -> Result<(), JournalFault>
+        ensures answers { result ≡ entered_at placed.now.place (entry_of (tariff_by (S.unauthorized self.old.schedule) (S.price self.old.schedule)) self.old.state (call_of placed.now.«record»)).refusal }
+        ensures leaves { self.new.state ≡ left_by (tariff_by (S.unauthorized self.old.schedule) (S.price self.old.schedule)) self.old.state (call_of placed.now.«record») }
+        ensures schedule { self.new.schedule ≡ self.old.schedule }
+    {
+        self.enter(&placed.record)
+            .map_err(|fault| (placed.place, fault))?;
+        Ok(())
+    }
+
+    // Plays every record of a journal in order. The refused ones are answered by their number and place, and passed over; one that cannot be read is the last.
+    pub fn play(&mut self, heap: Global, journal: &[u8]) -> Result<Vec<Refusal>, AllocError>
+        ensures played { IfOk result (λ refusals. Played (tariff_by (S.unauthorized self.old.schedule) (S.price self.old.schedule)) journal.now self.old.state self.new.state (vec_items refusals)) }
+        ensures schedule { self.new.schedule ≡ self.old.schedule }
+        ensures unchanged { OnErr result (self.new ≡ self.old) }
+    {
+        // Room for the refusal of every record and of one that cannot be read is made before the first is played, so that no later step wants memory.
+        let mut refusals = Vec::with_capacity(heap, journal.len() / LEAST_LENGTH + 1)?;
+        let mut reader = Reader::new(journal);
+        for number in 1.. {
+            match next_record(&mut reader) {
+                Ok(Some(placed)) => {
+                    if let Err(fault) = self.enter_placed(&placed) {
+                        refusals.push(Refusal { number, fault }).unwrap();
+                    }
+                }
+                Ok(None) => break,
+                Err(fault) => {
+                    refusals.push(Refusal { number, fault }).unwrap();
+                    break;
+                }
+            }
+        }
+        Ok(refusals)
+    }
+}
