@@ -1,6 +1,7 @@
 // A whole journal played into an account.
 ghost use Rattle.std.specs.Prelude.{◌≡◌, IfOk, OnErr, vec_items};
 ghost use Rattle.history.specs.Prices.{tariff_by};
+ghost use Rattle.history.specs.Runs.{RunsAddUp};
 ghost use Rattle.journal.specs.Reading.{answer, after};
 ghost use Rattle.account.specs.Journals.{call_of, entered_at, entry_of, left_by, read_at};
 ghost use Rattle.account.specs.Playing.{Played};
@@ -36,11 +37,12 @@ impl<S: Schedule> Account<S> {
         Ok(())
     }
 
-    // Plays every record of a journal in order. The refused ones are answered by their number and place, and passed over; one that cannot be read is the last.
+    // Plays every record of a journal in order. The refused ones are answered by their number and place, and passed over; one that cannot be read is the last. The law of all runs stands here: whole, and of this account, its own lines and its open therms, by every history that it goes on from.
     pub fn play(&mut self, heap: Global, journal: &[u8]) -> Result<Vec<Refusal>, AllocError>
         ensures played { IfOk result (λ refusals. Played (tariff_by (S.unauthorized self.old.schedule) (S.price self.old.schedule)) journal.now self.old.state self.new.state (vec_items refusals)) }
         ensures schedule { self.new.schedule ≡ self.old.schedule }
         ensures unchanged { OnErr result (self.new ≡ self.old) }
+        ensures law { RunsAddUp }
     {
         // Room for the refusal of every record and of one that cannot be read is made before the first is played, so that no later step wants memory.
         let mut refusals = Vec::with_capacity(heap, journal.len() / LEAST_LENGTH + 1)?;

@@ -1,4 +1,5 @@
 use Rattle.std.proofs.Common.{refl, arith, rules}
+use Rattle.history.proofs.Law.{runs_add_up}
 use Rattle.account.proofs.Turns.{accepted_on, ended, has_room, number_fits, refused_on, start, unread}
 use Rattle.account.proofs.account.Account.play.Goals as goal
 use Rattle.account.proofs.account.Account.play.Goals.{in-None, in-Some+in-Ok-None, in-Some+in-Err}
@@ -45,3 +46,9 @@ returns-clause-played g c =
       | in-Some+in-Ok-None w ↦ rw w.refusals-is (ended t (cc w.in-Ok-None.ensures.answers))
       | in-Some+in-Err w ↦ rw w.refusals-is (unread t w.in-Err.ensures.answers w.in-Some.ensures.steps.0 (rw w.unwrap-in-Err.ensures at w.push-in-Err.ensures.items))
     ]
+
+pub returns-in_err-refusals-clause-law : goal.returns-in_err-refusals-clause-law
+returns-in_err-refusals-clause-law g c = runs_add_up
+
+pub returns-clause-law : goal.returns-clause-law
+returns-clause-law g c = runs_add_up
