@@ -1,4 +1,4 @@
-use Rattle.std.proofs.Common.{refl, arith, rules}
+use Rattle.std.proofs.Common.{ℕ, List, Bor, refl, ap, arith, rules}
 use Rattle.history.proofs.Law.{runs_add_up}
 use Rattle.account.proofs.Turns.{accepted_on, ended, has_room, number_fits, refused_on, start, unread}
 use Rattle.account.proofs.account.Account.play.Goals as goal
@@ -19,7 +19,7 @@ loop-number-preserved-in-Err-enter_placed g c =
     let steps = c.in-Some.ensures.steps in
     record {
       schedule = told.schedule;
-      turn = refused_on c.loop-number.invariant.turn c.in-Ok-Some.placed (search rules) (cc c.next_record.ensures.same) c.next_record.ensures.moves told.leaves (omega (arith, steps))
+      turn = refused_on c.loop-number.invariant.turn c.in-Ok-Some.placed (search rules) (ap (λ (bytes : Bor (List ℕ)). bytes.now) c.next_record.ensures.same) c.next_record.ensures.moves told.leaves (omega (arith, steps))
           told.answers steps.0 (rw c.unwrap.ensures at c.push.ensures.items) (rw c.unwrap.ensures at c.push.ensures.len) c.push.ensures.capacity;
     }
 
@@ -28,7 +28,7 @@ loop-number-preserved g c =
     let told = rw c.loop-number.invariant.schedule at c.in_default.ensures in
     record {
       schedule = told.schedule;
-      turn = accepted_on c.loop-number.invariant.turn c.in-Ok-Some.placed (search rules) (cc c.next_record.ensures.same) c.next_record.ensures.moves told.leaves (omega (arith, c.in-Some.ensures.steps))
+      turn = accepted_on c.loop-number.invariant.turn c.in-Ok-Some.placed (search rules) (ap (λ (bytes : Bor (List ℕ)). bytes.now) c.next_record.ensures.same) c.next_record.ensures.moves told.leaves (omega (arith, c.in-Some.ensures.steps))
           told.answers refl refl (omega arith);
     }
 
