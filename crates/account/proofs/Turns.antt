@@ -62,7 +62,7 @@ start {s} {bs} {rs} {a} same none empty enough first one = record {
 }
 
 -- what a reader answers, from what is answered of it
-pub was_read : (i : ℕ) (r : Result (Option Placed) ReadFault) (next : Option Placed) → Ok next ≡ read_at i r → r ≡ Ok next
+was_read : (i : ℕ) (r : Result (Option Placed) ReadFault) (next : Option Placed) → Ok next ≡ read_at i r → r ≡ Ok next
 was_read i (Ok x) next e = cc
 was_read i (Err f) next e = absurd cc
 
