@@ -1,0 +1,3 @@
+pub mod Outputs
+pub mod Piles
+pub mod Rows

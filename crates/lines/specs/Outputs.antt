@@ -1,0 +1,18 @@
+-- What the program writes of its input.
+use Rattle.std.specs.Prelude.{◌≡◌, ℕ, List, Some, None, codes, Option}
+use Rattle.account.specs.declared.faults.Refusal.{Refusal}
+use Rattle.account.specs.Playing.{Played}
+use Rattle.history.specs.Calls.{State}
+use Rattle.history.specs.Runs.{new_state}
+use Rattle.lines.specs.Piles.{pile}
+use Rattle.lines.specs.Rows.{played_text}
+
+-- the text of the account that a journal makes of a new one, on the program's tariff, and of what was refused on the way
+abbrev pub PrintsPlayed : List ℕ → List ℕ → Type 0
+PrintsPlayed bytes text =
+    (b : State) × (refusals : List Refusal) × Played pile bytes new_state b refusals × (text ≡ played_text refusals b.lines)
+
+-- nothing but `too long` where there was more than a journal may hold
+abbrev pub Prints : Option (List ℕ) → List ℕ → Type 0
+Prints None text = text ≡ codes "too long\n"
+Prints (Some bytes) text = PrintsPlayed bytes text

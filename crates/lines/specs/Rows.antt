@@ -1,0 +1,44 @@
+-- What the program prints of a journal that was played into an account: what was refused, the lines, and their sum.
+use Rattle.std.specs.Prelude.{ℕ, ◌+◌, List, [], ◌∷◌, ◌++◌, ℤ, codes, decimal}
+use Rattle.std.specs.Fmt.{signed_decimal}
+use Rattle.account.specs.declared.faults.Refusal.{Refusal}
+use Rattle.account.specs.Faults.{journal_values}
+use Rattle.history.specs.declared.lines.Line.{Line}
+use Rattle.history.specs.Headings.{heading_item, heading_month, money_on, therms_on}
+use Rattle.history.specs.Questions.{sum_of_all}
+
+-- a refused record: its number, and that of the refusal
+abbrev pub refusal_text : Refusal → List ℕ
+refusal_text r = codes "refused " ++ (decimal r.number ++ (codes " " ++ decimal (journal_values r.fault).0))
+
+-- what the fields of a line's row are
+abbrev pub header : List ℕ
+header = codes "no month item therms millicents"
+
+-- a line: its number, its month, its item, its therms and its money
+abbrev pub line_text : ℕ → Line → List ℕ
+line_text k l =
+    decimal k ++ (codes " " ++ (decimal (heading_month l.heading) ++ (codes " " ++ (decimal (heading_item l.heading) ++
+    (codes " " ++ (signed_decimal (therms_on l) ++ (codes " " ++ signed_decimal (money_on l))))))))
+
+-- what all lines add up to in money
+abbrev pub sum_text : ℤ → List ℕ
+sum_text sum = codes "sum " ++ signed_decimal sum
+
+-- a row to a refusal
+abbrev pub refusals_text : List Refusal → List ℕ
+refusals_text [] = []
+refusals_text (r ∷ rs) = refusal_text r ++ (codes "\n" ++ refusals_text rs)
+
+-- a row to a line, numbered from k
+abbrev pub lines_text : ℕ → List Line → List ℕ
+lines_text k [] = []
+lines_text k (l ∷ ls) = line_text k l ++ (codes "\n" ++ lines_text (k + 1) ls)
+
+-- the header, the lines, and last their sum
+abbrev pub account_text : List Line → List ℕ
+account_text lines = header ++ (codes "\n" ++ (lines_text 1 lines ++ (sum_text (sum_of_all lines) ++ codes "\n")))
+
+-- what was refused, and then the account
+abbrev pub played_text : List Refusal → List Line → List ℕ
+played_text refusals lines = refusals_text refusals ++ account_text lines

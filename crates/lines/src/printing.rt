@@ -1,0 +1,68 @@
+// All that the program prints.
+ghost use Rattle.std.specs.Prelude.{◌≡◌, ◌++◌, OnOk, IfOk, string_bytes, vec_items};
+ghost use Rattle.std.specs.Option.{option_map};
+ghost use Rattle.lines.specs.Outputs.{Prints, PrintsPlayed};
+ghost use Rattle.lines.specs.Rows.{account_text, lines_text, refusals_text};
+
+use crate::rows::{LineRow, RefusalRow};
+use crate::schedule::schedule;
+use account::{Account, Refusal};
+use gas::Schedule;
+use std::alloc::Global;
+use std::fmt;
+
+// A row for each refusal, in order.
+fn write_refusals(text: &mut String, refusals: &[Refusal]) -> Result<(), fmt::Error>
+    ensures { OnOk result (string_bytes text.new ≡ string_bytes text.old ++ refusals_text refusals.now) }
+{
+    for refusal in refusals {
+        writeln!(text, "{}", RefusalRow(*refusal))?;
+    }
+    Ok(())
+}
+
+// A row for each line of an account, in order. Each number up to the count has its line.
+fn write_lines<S: Schedule>(text: &mut String, account: &Account<S>) -> Result<(), fmt::Error>
+    ensures { OnOk result (string_bytes text.new ≡ string_bytes text.old ++ lines_text 1 account.now.state.lines) }
+{
+    for index in 0..account.line_count() {
+        let number = index + 1;
+        let line = account.line(number).unwrap();
+        writeln!(text, "{}", LineRow { number, line })?;
+    }
+    Ok(())
+}
+
+// The header, a row for each line, and their sum.
+fn write_account<S: Schedule>(text: &mut String, account: &Account<S>) -> Result<(), fmt::Error>
+    ensures { OnOk result (string_bytes text.new ≡ string_bytes text.old ++ account_text account.now.state.lines) }
+{
+    writeln!(text, "no month item therms millicents")?;
+    write_lines(text, account)?;
+    writeln!(text, "sum {}", account.total().amount)?;
+    Ok(())
+}
+
+// What was refused of a journal, and the account that it made.
+fn played(heap: Global, journal: &[u8]) -> Result<String, fmt::Error>
+    ensures { IfOk result (λ text. PrintsPlayed journal.now (string_bytes text)) }
+{
+    let mut account = Account::new(schedule());
+    let refusals = account.play(heap, journal)?;
+    let mut text = String::new(heap);
+    write_refusals(&mut text, &refusals)?;
+    write_account(&mut text, &account)?;
+    Ok(text)
+}
+
+// All that the program prints of a journal, or of an input that was too long to be one.
+pub fn output(heap: Global, journal: Option<Vec<u8>>) -> Result<String, fmt::Error>
+    ensures { IfOk result (λ text. Prints (option_map vec_items journal) (string_bytes text)) }
+{
+    let Some(bytes) = journal else {
+        let mut text = String::new(heap);
+        writeln!(text, "too long")?;
+        return Ok(text);
+    };
+    played(heap, &bytes)
+}

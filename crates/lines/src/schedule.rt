@@ -1,0 +1,31 @@
+// The schedule by which the program prices.
+ghost use Rattle.std.specs.Prelude.{◌≡◌};
+ghost use Rattle.history.specs.Prices.{tariff_by};
+ghost use Rattle.lines.specs.Piles.{pile};
+
+use gas::{PerMille, Schedule, Therms};
+use pipelines::Northern;
+use riders::{Franchise, Interim, Rider, WithRider};
+use tariff::{Class, SmallDualFuel};
+
+// Small dual fuel on Northern, with the interim rider on it, and on that a franchise rider.
+pub type PiledSchedule = WithRider<WithRider<Class<SmallDualFuel, Northern>, Interim>, Franchise>;
+
+const SMALL: SmallDualFuel = SmallDualFuel {
+    annual: Therms { count: 36_500 },
+};
+
+const FRANCHISE: Franchise = Franchise {
+    share: PerMille { share: 50 },
+};
+
+// The schedule that the program's account is made with.
+pub fn schedule() -> PiledSchedule
+    ensures { tariff_by (⟦<PiledSchedule as Schedule>⟧.unauthorized result) (⟦<PiledSchedule as Schedule>⟧.price result) ≡ pile }
+{
+    let class = Class {
+        terms: SMALL,
+        pipeline: Northern,
+    };
+    FRANCHISE.on(Interim.on(class))
+}
