@@ -6,12 +6,12 @@ use Rattle.history.specs.Calls.{State}
 use Rattle.history.specs.Prices.{Tariff}
 use Rattle.history.specs.Runs.{new_state}
 use Rattle.lines.specs.Outputs.{PrintsPlayed}
-use Rattle.lines.specs.Piles.{pile}
+use Rattle.lines.specs.Tariffs.{fixed_tariff}
 use Rattle.lines.specs.Rows.{account_text, refusals_text}
 
 -- a text that was empty, and to which the refusals were written and then the account
-pub played_is_printed : (s : Tariff) (bytes none some text : List ℕ) (a b : State) (refusals : List Refusal) → s ≡ pile → a ≡ new_state → Played s bytes a b refusals → none ≡ [] → some ≡ none ++ refusals_text refusals → text ≡ some ++ account_text b.lines → PrintsPlayed bytes text
+pub played_is_printed : (s : Tariff) (bytes none some text : List ℕ) (a b : State) (refusals : List Refusal) → s ≡ fixed_tariff → a ≡ new_state → Played s bytes a b refusals → none ≡ [] → some ≡ none ++ refusals_text refusals → text ≡ some ++ account_text b.lines → PrintsPlayed bytes text
 played_is_printed s bytes none some text a b refusals tariff new played empty first then =
-    let by_pile : Played pile bytes a b refusals = subst (λ (t : Tariff). Played t bytes a b refusals) tariff played in
-    let from_new : Played pile bytes new_state b refusals = subst (λ (x : State). Played pile bytes x b refusals) new by_pile in
+    let on_it : Played fixed_tariff bytes a b refusals = subst (λ (t : Tariff). Played t bytes a b refusals) tariff played in
+    let from_new : Played fixed_tariff bytes new_state b refusals = subst (λ (x : State). Played fixed_tariff bytes x b refusals) new on_it in
     (b, refusals, from_new, rw (then, first, empty) refl)

@@ -1,3 +1,3 @@
 pub mod Outputs
-pub mod Piles
+pub mod Tariffs
 pub mod Rows

@@ -4,13 +4,13 @@ use Rattle.account.specs.declared.faults.Refusal.{Refusal}
 use Rattle.account.specs.Playing.{Played}
 use Rattle.history.specs.Calls.{State}
 use Rattle.history.specs.Runs.{new_state}
-use Rattle.lines.specs.Piles.{pile}
+use Rattle.lines.specs.Tariffs.{fixed_tariff}
 use Rattle.lines.specs.Rows.{played_text}
 
 -- the text of the account that a journal makes of a new one, on the program's tariff, and of what was refused on the way
 abbrev pub PrintsPlayed : List ℕ → List ℕ → Type 0
 PrintsPlayed bytes text =
-    (b : State) × (refusals : List Refusal) × Played pile bytes new_state b refusals × (text ≡ played_text refusals b.lines)
+    (b : State) × (refusals : List Refusal) × Played fixed_tariff bytes new_state b refusals × (text ≡ played_text refusals b.lines)
 
 -- nothing but `too long` where there was more than a journal may hold
 abbrev pub Prints : Option (List ℕ) → List ℕ → Type 0

@@ -1,7 +1,7 @@
 // The schedule by which the program prices.
 ghost use Rattle.std.specs.Prelude.{◌≡◌};
 ghost use Rattle.history.specs.Prices.{tariff_by};
-ghost use Rattle.lines.specs.Piles.{pile};
+ghost use Rattle.lines.specs.Tariffs.{fixed_tariff};
 
 use gas::{PerMille, Schedule, Therms};
 use pipelines::Northern;
@@ -9,7 +9,7 @@ use riders::{Franchise, Interim, Rider, WithRider};
 use tariff::{Class, SmallDualFuel};
 
 // Small dual fuel on Northern, with the interim rider on it, and on that a franchise rider.
-pub type PiledSchedule = WithRider<WithRider<Class<SmallDualFuel, Northern>, Interim>, Franchise>;
+pub type FixedSchedule = WithRider<WithRider<Class<SmallDualFuel, Northern>, Interim>, Franchise>;
 
 const SMALL: SmallDualFuel = SmallDualFuel {
     annual: Therms { count: 36_500 },
@@ -20,8 +20,8 @@ const FRANCHISE: Franchise = Franchise {
 };
 
 // The schedule that the program's account is made with.
-pub fn schedule() -> PiledSchedule
-    ensures { tariff_by (⟦<PiledSchedule as Schedule>⟧.unauthorized result) (⟦<PiledSchedule as Schedule>⟧.price result) ≡ pile }
+pub fn schedule() -> FixedSchedule
+    ensures { tariff_by (⟦<FixedSchedule as Schedule>⟧.unauthorized result) (⟦<FixedSchedule as Schedule>⟧.price result) ≡ fixed_tariff }
 {
     let class = Class {
         terms: SMALL,

@@ -31,5 +31,5 @@ abbrev pub with_franchise : MonthFacts → Item → Answer
 with_franchise = ridden items.Franchise layers.Franchise (fee franchise_share) all_items with_interim
 
 -- riders leave a day's unauthorized therms to the class
-abbrev pub pile : Tariff
-pile = tariff_by dual_fuel_use with_franchise
+abbrev pub fixed_tariff : Tariff
+fixed_tariff = tariff_by dual_fuel_use with_franchise
