@@ -29,7 +29,7 @@ five_at_least (Settle final interest) = omega arith
 -- the account after records goes on by their history
 runs_on : (s : Tariff) (h : History) (a : State) (ps : List Placed) → Run s h a → Run s (history_after s h a ps) (account_after s a ps)
 runs_on s h a [] run = run
-runs_on s h a (p ∷ ps) run = runs_on s (entry_of s a (call_of p.«record») ∷ h) (left_by s a (call_of p.«record»)) ps (a, run, (refl, refl))
+runs_on s h a (p ∷ ps) run = runs_on s (entry_of s a p.«record» ∷ h) (left_by s a p.«record») ps (a, run, (refl, refl))
 
 -- with all that a reader gives the journal is played
 whole : (s : Tariff) (bs : List ℕ) (a : State) (ps : List Placed) (end : Option ReadFault) → Gives bs 0 ps end → Played s bs a (account_after s a ps) (refusals_of s 1 0 a ps end)
@@ -97,7 +97,7 @@ module _ {s : Tariff} {bs rs : List ℕ} {before a : State} {refusals : List Ref
       let was = was_unread i (answer rs i) fault e in
       rw (is, this, was.2 k) (t.rest [] (Some was.0) was.1)
 
-  module _ {rs' : List ℕ} {a' : State} {all : List Refusal} {n' room' j l : ℕ} (p : Placed) (read : Ok (Some p) ≡ read_at i (answer rs i)) (same : rs' ≡ rs) (on : j ≡ after rs i) (left : a' ≡ left_by s a (call_of p.«record»)) (next : l ≡ k + 1) where
+  module _ {rs' : List ℕ} {a' : State} {all : List Refusal} {n' room' j l : ℕ} (p : Placed) (read : Ok (Some p) ≡ read_at i (answer rs i)) (same : rs' ≡ rs) (on : j ≡ after rs i) (left : a' ≡ left_by s a p.«record») (next : l ≡ k + 1) where
     -- one record more, with its refusals
     on_by : (more : List Refusal) → refused_at k p.place (result_err (outcome s (call_of p.«record») a)) ≡ more → all ≡ refusals ++ more → n' ≤ n + 1 → room ≤ room' → Sofar s bs rs' before a' all n' room' j l
     on_by more of is one_more as_much =
@@ -110,8 +110,8 @@ module _ {s : Tariff} {bs rs : List ℕ} {before a : State} {refusals : List Ref
           enough = omega (arith, t.enough);
           rest = λ ps end h.
               let given = subst (λ (m : ℕ). Gives rs m ps end) on (subst (λ (b : List ℕ). Gives b j ps end) same h) in
-              let goes_on = refusals_of s (k + 1) (i + record_length p.«record») (left_by s a (call_of p.«record»)) ps end in
-              rw (is, left, next, behind_it) (subst (Played s bs before (account_after s (left_by s a (call_of p.«record»)) ps)) (joined goes_on) (t.rest (p ∷ ps) end (e, given)));
+              let goes_on = refusals_of s (k + 1) (i + record_length p.«record») (left_by s a p.«record») ps end in
+              rw (is, left, next, behind_it) (subst (Played s bs before (account_after s (left_by s a p.«record») ps)) (joined goes_on) (t.rest (p ∷ ps) end (e, given)));
         }
       where
         joined : (l : List Refusal) → refusals ++ (refused_at k p.place (result_err (outcome s (call_of p.«record») a)) ++ l) ≡ (refusals ++ more) ++ l

@@ -38,21 +38,24 @@ call_of (Close month index interruptible firm) = closing month (record { index =
 call_of (Pay amount) = payment amount
 call_of (Settle final interest) = settling (record { final = final; interest = interest })
 
--- a call with the answer that it gets from an account, and the account that it leaves
-abbrev pub entry_of : Tariff → State → Call → Entry
-entry_of s a c = record { call = c; refusal = result_err (outcome s c a) }
+-- what an account answers to a record, its entry in the history, and the account that it leaves
+abbrev pub refusal_of : Tariff → State → Record → Option AccountFault
+refusal_of s a r = result_err (outcome s (call_of r) a)
 
-abbrev pub left_by : Tariff → State → Call → State
-left_by s a c = result_unwrap_or (outcome s c a) a
+abbrev pub entry_of : Tariff → State → Record → Entry
+entry_of s a r = record { call = call_of r; refusal = refusal_of s a r }
+
+abbrev pub left_by : Tariff → State → Record → State
+left_by s a r = result_unwrap_or (outcome s (call_of r) a) a
 
 -- the history of an account, and the account, after records that were played one after another
 abbrev pub history_after : Tariff → History → State → List Placed → History
 history_after s h a [] = h
-history_after s h a (p ∷ ps) = history_after s (entry_of s a (call_of p.«record») ∷ h) (left_by s a (call_of p.«record»)) ps
+history_after s h a (p ∷ ps) = history_after s (entry_of s a p.«record» ∷ h) (left_by s a p.«record») ps
 
 abbrev pub account_after : Tariff → State → List Placed → State
 account_after s a [] = a
-account_after s a (p ∷ ps) = account_after s (left_by s a (call_of p.«record»)) ps
+account_after s a (p ∷ ps) = account_after s (left_by s a p.«record») ps
 
 -- what a reader at a place answers, a refusal with the place
 abbrev pub read_at : ℕ → Result (Option Placed) ReadFault → Result (Option Placed) JournalFault
@@ -78,4 +81,4 @@ unread_at k place (Some f) = record { number = k; fault = Unread place f } ∷ [
 abbrev pub refusals_of : Tariff → ℕ → ℕ → State → List Placed → Option ReadFault → List Refusal
 refusals_of s k place a [] end = unread_at k place end
 refusals_of s k place a (p ∷ ps) end =
-    refused_at k p.place (result_err (outcome s (call_of p.«record») a)) ++ refusals_of s (k + 1) (place + record_length p.«record») (left_by s a (call_of p.«record»)) ps end
+    refused_at k p.place (refusal_of s a p.«record») ++ refusals_of s (k + 1) (place + record_length p.«record») (left_by s a p.«record») ps end

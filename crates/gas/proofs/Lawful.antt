@@ -37,10 +37,14 @@ passed : {A F : Type 0} (b : Bool) (r : Result A F) (e : F) (a : A) → Ok a ≡
 passed true r e a h = h
 passed false r e a h = absurd (let z : ◌≡◌ {A = ℕ} 0 1 = cc in omega arith)
 
+-- a day that was taken passed the test of its quantities
+pub quantities_taken : (n m : DayNumbers) → Ok m ≡ checked_day n → Ok m ≡ unless (lawful_day n) Quantity n
+quantities_taken n m h =
+    let one : Ok m ≡ cond (leb n.curtailed 1) (unless (lawful_day n) Quantity n) (Err Mark) = passed (leb n.kind 3) _ DayKind m h in
+    passed (leb n.curtailed 1) _ Mark m one
+
 -- a day that was made has the numbers of which it was made
 pub day_made_of : (n m : DayNumbers) → Ok m ≡ checked_day n → m ≡ n
 day_made_of n m h =
-    let one : Ok m ≡ cond (leb n.curtailed 1) (unless (lawful_day n) Quantity n) (Err Mark) = passed (leb n.kind 3) _ DayKind m h in
-    let two : Ok m ≡ unless (lawful_day n) Quantity n = passed (leb n.curtailed 1) _ Mark m one in
-    let three : Ok m ≡ Ok n = passed (lawful_day n) (Ok n) Quantity m two in
+    let taken : Ok m ≡ Ok n = passed (lawful_day n) (Ok n) Quantity m (quantities_taken n m h) in
     cc

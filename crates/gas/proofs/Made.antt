@@ -1,5 +1,5 @@
 -- A lawful day is the one that its numbers make.
-use Rattle.std.proofs.Common.{◌≡◌, ℕ, Bool, true, false, cond, eqb, Ok, Err, Result, refl, sym, ap, subst, arith}
+use Rattle.std.proofs.Common.{◌≡◌, ℕ, Bool, true, false, eqb, Ok, Err, Result, refl, sym, ap, ◌∙◌, subst, arith}
 use Rattle.std.proofs.Math.Bridge.{le_prop}
 use Rattle.gas.specs.declared.day.DayKind.{DayKind}
 use Rattle.gas.specs.declared.day.DayKind.TheVariants.{Normal, Sul, Sol, Critical}
@@ -9,7 +9,8 @@ use Rattle.gas.specs.declared.faults.InputFault.{InputFault}
 use Rattle.gas.specs.declared.faults.InputFault.TheVariants as input
 use Rattle.gas.specs.Day.{kind_number, numbers_of}
 use Rattle.gas.specs.Inputs.{checked_day, lawful_day, mark_number, read, unless}
-use Rattle.gas.specs.Made.{day_of, day_tested, kind_of, made_day}
+use Rattle.gas.proofs.Lawful.{quantities_taken}
+use Rattle.gas.specs.Made.{day_of, made_of_taken, day_tested, kind_of, made_day}
 
 same_kind : (k : DayKind) → kind_of (kind_number k) ≡ k
 same_kind Normal = refl
@@ -46,14 +47,14 @@ tested n (Err f) true e h = absurd (let z : ◌≡◌ {A = ℕ} 0 1 = cc in omeg
 tested n (Ok d) false e h = absurd (let z : ◌≡◌ {A = ℕ} 0 1 = cc in omega arith)
 tested n (Err f) false e h = cc
 
--- where the kind or the mark is refused, nothing is made
-gated : (ok : Bool) (r made : Result DayRecord InputFault) (read_as : Result DayNumbers InputFault) (f : InputFault) → (read numbers_of r ≡ read_as → r ≡ made) → read numbers_of r ≡ cond ok read_as (Err f) → r ≡ cond ok made (Err f)
-gated true r made read_as f passes h = passes h
-gated false (Ok d) made read_as f passes h = absurd (let z : ◌≡◌ {A = ℕ} 0 1 = cc in omega arith)
-gated false (Err e) made read_as f passes h = cc
+-- what was refused was not made
+answered : (taken : Result DayNumbers InputFault) (r made : Result DayRecord InputFault) → read numbers_of r ≡ taken → ((n : DayNumbers) → taken ≡ Ok n → r ≡ made) → r ≡ made_of_taken taken made
+answered (Ok n) r made h passes = passes n refl
+answered (Err f) (Ok d) made h passes = absurd (let z : ◌≡◌ {A = ℕ} 0 1 = cc in omega arith)
+answered (Err f) (Err e) made h passes = cc
 
 pub day_of_made : (n : DayNumbers) (r : Result DayRecord InputFault) → read numbers_of r ≡ checked_day n → r ≡ day_of n
-day_of_made n r h = gated _ r _ _ input.DayKind (gated _ r _ _ input.Mark (tested n r (lawful_day n) refl)) h
+day_of_made n r h = answered (checked_day n) r _ h (λ m e. tested n r (lawful_day n) refl (h ∙ e ∙ quantities_taken n m (sym e)))
 
 pub made_of : (n : DayNumbers) (d : DayRecord) → Ok (numbers_of d) ≡ checked_day n → Ok d ≡ day_of n
 made_of n d h = day_of_made n (Ok d) h

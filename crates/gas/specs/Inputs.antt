@@ -1,5 +1,5 @@
 -- When a number from outside is taken, and which refusal it gets if not.
-use Rattle.std.specs.Prelude.{ℕ, Bool, if◌then◌else◌, ◌&&◌, Ok, Err, Result, nat_le}
+use Rattle.std.specs.Prelude.{ℕ, Bool, if◌then◌else◌, ◌&&◌, List, [], ◌∷◌, Ok, Err, Result, nat_le}
 use Rattle.gas.specs.declared.day.DayNumbers.{DayNumbers}
 use Rattle.gas.specs.declared.faults.InputFault.{InputFault}
 use Rattle.gas.specs.declared.faults.InputFault.TheVariants.{Month, DayKind, Mark, Quantity, PerMille}
@@ -67,10 +67,17 @@ lawful_day d =
     nat_le d.nomination most_a_day && (nat_le d.receipts most_a_day && (nat_le d.reading most_a_day && (nat_le d.after_notice d.reading &&
     (nat_le d.supply_cost most_per_therm && nat_le d.variance_rate most_per_therm))))
 
+-- tests in their order, each with the refusal where it fails: the first that fails decides
+abbrev pub passing : {A : Type 0} → List (Bool × InputFault) → A → Result A InputFault
+passing [] a = Ok a
+passing (t ∷ ts) a = if t.0 then passing ts a else Err t.1
+
 -- a day's kind comes first, then its mark, then its quantities
+abbrev pub tests_of_day : DayNumbers → List (Bool × InputFault)
+tests_of_day d = (nat_le d.kind 3, DayKind) ∷ (nat_le d.curtailed 1, Mark) ∷ (lawful_day d, Quantity) ∷ []
+
 abbrev pub checked_day : DayNumbers → Result DayNumbers InputFault
-checked_day d =
-    if nat_le d.kind 3 then (if nat_le d.curtailed 1 then unless (lawful_day d) Quantity d else Err Mark) else Err DayKind
+checked_day d = passing (tests_of_day d) d
 
 -- the three numbers that close a month are rates
 abbrev pub closes : ClosingNumbers → Bool

@@ -1,5 +1,5 @@
 -- The lawful day that numbers make.
-use Rattle.std.specs.Prelude.{◌≡◌, ℕ, Bool, true, false, if◌then◌else◌, [], ◌∷◌, Ok, Err, Result, ◌==◌, nat_le, slice_index_or, refl}
+use Rattle.std.specs.Prelude.{◌≡◌, ℕ, Bool, true, false, [], ◌∷◌, Ok, Err, Result, ◌==◌, nat_le, slice_index_or, refl}
 use Rattle.std.proofs.lemmas.Bool.{and_parts, leb-true}
 use Rattle.gas.specs.declared.day.DayKind.{DayKind}
 use Rattle.gas.specs.declared.day.DayKind.TheVariants as kind
@@ -7,7 +7,7 @@ use Rattle.gas.specs.declared.day.DayNumbers.{DayNumbers}
 use Rattle.gas.specs.declared.day.DayRecord.{DayRecord}
 use Rattle.gas.specs.declared.faults.InputFault.{InputFault}
 use Rattle.gas.specs.declared.faults.InputFault.TheVariants as input
-use Rattle.gas.specs.Inputs.{lawful_day, most_a_day, most_per_therm}
+use Rattle.gas.specs.Inputs.{checked_day, lawful_day, most_a_day, most_per_therm}
 
 abbrev pub kind_of : ℕ → DayKind
 kind_of k = slice_index_or (kind.Normal ∷ kind.Sul ∷ kind.Sol ∷ kind.Critical ∷ []) k kind.Normal
@@ -38,6 +38,11 @@ abbrev pub day_tested : (n : DayNumbers) (ok : Bool) → lawful_day n ≡ ok →
 day_tested n true e = Ok (made_day n e)
 day_tested n false e = Err input.Quantity
 
--- the day that numbers make, or their refusal: the kind first, then the mark, then the quantities
+-- the day of numbers that were taken, or their refusal
+abbrev pub made_of_taken : Result DayNumbers InputFault → Result DayRecord InputFault → Result DayRecord InputFault
+made_of_taken (Ok n) made = made
+made_of_taken (Err f) made = Err f
+
+-- the day that numbers make, or their first refusal
 abbrev pub day_of : DayNumbers → Result DayRecord InputFault
-day_of n = if nat_le n.kind 3 then (if nat_le n.curtailed 1 then day_tested n (lawful_day n) refl else Err input.Mark) else Err input.DayKind
+day_of n = made_of_taken (checked_day n) (day_tested n (lawful_day n) refl)

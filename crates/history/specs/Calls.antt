@@ -1,5 +1,5 @@
 -- The six calls of an account, and the one outcome of each.
-use Rattle.std.specs.Prelude.{ℕ, ◌+◌, Bool, if◌then◌else◌, not, ◌&&◌, List, [], ◌∷◌, ◌++◌, length, pos, neg_ℤ, is_some, Some, None, Ok, Err, Option, Result, ◌==◌, nat_le, nat_lt, slice_index_or, slice_set}
+use Rattle.std.specs.Prelude.{ℕ, ◌+◌, Bool, if◌then◌else◌, not, ◌&&◌, List, [], ◌∷◌, ◌++◌, length, map, pos, neg_ℤ, is_some, Some, None, Ok, Err, Option, Result, ◌==◌, nat_le, nat_lt, slice_index_or, slice_set}
 use Rattle.gas.specs.declared.day.DayNumbers.{DayNumbers}
 use Rattle.gas.specs.declared.day.DayRecord.{DayRecord}
 use Rattle.gas.specs.declared.faults.InputFault.{InputFault}
@@ -7,7 +7,7 @@ use Rattle.gas.specs.declared.faults.InputFault.TheVariants as input
 use Rattle.gas.specs.declared.items.ScheduleFault.{ScheduleFault}
 use Rattle.gas.specs.declared.month.ClosingNumbers.{ClosingNumbers}
 use Rattle.gas.specs.Calendar.{month_length}
-use Rattle.gas.specs.Inputs.{closes, last_month, lawful_day, whole}
+use Rattle.gas.specs.Inputs.{closes, last_month, tests_of_day, whole}
 use Rattle.history.specs.declared.faults.AccountFault.{AccountFault}
 use Rattle.history.specs.declared.faults.AccountFault.TheVariants as fault
 use Rattle.history.specs.declared.lines.Heading.TheVariants as heading
@@ -52,14 +52,15 @@ lawful ok f = (ok, fault.Input f)
 abbrev pub opened : Year → Bool × AccountFault
 opened y = (is_opened y.standing, fault.NotOpened)
 
--- a month, a day of it, and the day's kind, mark and quantities
+-- a month, a day of it, and what the day was
 abbrev pub day_input : Bool → ℕ → ℕ → DayNumbers → Tests
 day_input leap month day n =
     lawful (nat_le month last_month) input.Month ∷ lawful (nat_le 1 day && nat_le day (month_length leap month)) input.Day ∷
-    lawful (nat_le n.kind 3) input.DayKind ∷ lawful (nat_le n.curtailed 1) input.Mark ∷ lawful (lawful_day n) input.Quantity ∷ []
+    map (λ t. lawful t.0 t.1) (tests_of_day n)
 
+-- and last whether it is posted, or is not
 abbrev pub day_tests : Year → ℕ → ℕ → DayNumbers → Bool × AccountFault → Tests
-day_tests y month day n state = opened y ∷ (day_input y.leap month day n ++ (state ∷ []))
+day_tests y month day n stored = opened y ∷ (day_input y.leap month day n ++ (stored ∷ []))
 
 abbrev pub is_posted : Year → ℕ → ℕ → Bool
 is_posted y month day = is_some (slice_index_or y.days (place_of month day) None)

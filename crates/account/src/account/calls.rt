@@ -108,10 +108,10 @@ impl<S: Schedule> Account<S> {
     }
 
     // Takes in a record of a journal. What it is and where the account stands decide together; each call tests the standing for itself too, since it can be made without a journal.
-    pub fn enter(&mut self, record: &Record) -> Result<(), AccountFault>
-        ensures { Called S.unauthorized S.price self.old (call_of «record».now) result self.new }
+    pub fn enter(&mut self, call: &Record) -> Result<(), AccountFault>
+        ensures { Called S.unauthorized S.price self.old (call_of call.now) result self.new }
     {
-        match (self.standing, *record) {
+        match (self.standing, *call) {
             (
                 Standing::NotOpened,
                 Record::Open {

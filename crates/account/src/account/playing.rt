@@ -3,7 +3,7 @@ ghost use Rattle.std.specs.Prelude.{◌≡◌, IfOk, OnErr, vec_items};
 ghost use Rattle.history.specs.Prices.{tariff_by};
 ghost use Rattle.history.specs.Runs.{RunsAddUp};
 ghost use Rattle.journal.specs.Reading.{answer, after};
-ghost use Rattle.account.specs.Journals.{call_of, entered_at, entry_of, left_by, read_at};
+ghost use Rattle.account.specs.Journals.{entered_at, left_by, read_at, refusal_of};
 ghost use Rattle.account.specs.Playing.{Played};
 
 use crate::account::Account;
@@ -26,11 +26,12 @@ fn next_record(reader: &mut Reader) -> Result<Option<Placed>, JournalFault>
 }
 
 impl<S: Schedule> Account<S> {
-    // Takes in a record of a journal; a refusal comes with its place.
-    fn enter_placed(&mut self, placed: &Placed) -> Result<(), JournalFault>
-        ensures answers { result ≡ entered_at placed.now.place (entry_of (tariff_by (S.unauthorized self.old.schedule) (S.price self.old.schedule)) self.old.state (call_of placed.now.«record»)).refusal }
-        ensures leaves { self.new.state ≡ left_by (tariff_by (S.unauthorized self.old.schedule) (S.price self.old.schedule)) self.old.state (call_of placed.now.«record») }
+    // Takes in a record of a journal with its place, which comes with a refusal. By this call and a reader a journal is played without a heap.
+    pub fn enter_placed(&mut self, placed: &Placed) -> Result<(), JournalFault>
+        ensures answers { result ≡ entered_at placed.now.place (refusal_of (tariff_by (S.unauthorized self.old.schedule) (S.price self.old.schedule)) self.old.state placed.now.«record») }
+        ensures leaves { self.new.state ≡ left_by (tariff_by (S.unauthorized self.old.schedule) (S.price self.old.schedule)) self.old.state placed.now.«record» }
         ensures schedule { self.new.schedule ≡ self.old.schedule }
+        ensures unchanged { OnErr result (self.new ≡ self.old) }
     {
         self.enter(&placed.record)
             .map_err(|fault| (placed.place, fault))?;

@@ -1,17 +1,22 @@
 // What an account answers to questions, of which none changes it.
-ghost use Rattle.std.specs.Prelude.{◌≡◌, length};
+ghost use Rattle.std.specs.Prelude.{◌≡◌, ◌≤◌, length};
+ghost use Rattle.history.specs.Calls.{most_lines};
 ghost use Rattle.history.specs.Prices.{open_therms, tariff_by};
 ghost use Rattle.history.specs.Questions.{PeakAnswer, line_numbered, sum_of_all};
 ghost use Rattle.history.specs.Runs.{AddsUp, History, Run, RunsAddUp, known};
+ghost use Rattle.history.specs.Year.{Complete};
 
 use crate::account::Account;
 use gas::{Millicents, Month, Schedule};
 use history::{AccountFault, Line, NetTherms};
 
 impl<S: Schedule> Account<S> {
-    // How many lines there are.
+    // How many lines there are; and what is true of every account: the months closed are the first ones, with all their days posted, and the lines are no more than there is room for.
     pub fn line_count(&self) -> usize
-        ensures { result ≡ length self.now.state.lines }
+        ensures is { result ≡ length self.now.state.lines }
+        ensures room { length self.now.state.lines ≤ most_lines }
+        ensures few { length self.now.state.year.closings ≤ 12 }
+        ensures complete { Complete self.now.state.year }
     {
         self.book.line_count()
     }
