@@ -7,7 +7,7 @@ use crate::faults::InputFault;
 
 const LAST_MONTH: u8 = 11;
 
-// The month lengths stand in constant tables, by a rule of the project.
+// The month lengths stand in constant tables, so that they can be read beside a calendar.
 const COMMON_YEAR: [u8; 12] = [30, 31, 31, 28, 31, 30, 31, 30, 31, 31, 30, 31];
 
 const LEAP_YEAR: [u8; 12] = [30, 31, 31, 29, 31, 30, 31, 30, 31, 31, 30, 31];

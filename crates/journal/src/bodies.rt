@@ -109,7 +109,7 @@ fn settle(body: &[u8]) -> Result<Record, ReadFault>
     })
 }
 
-// The record of a kind, from the bytes behind its kind byte. By a rule of the project, patterns take the kind byte and the numbers of a body, so that each kind is read, and written, by a function of its own.
+// The record of a kind, from the bytes behind its kind byte. Each kind is read, and written, by a function of its own, since patterns take the numbers of its body.
 fn record_of(kind: u8, body: &[u8]) -> Result<Record, ReadFault>
     ensures { result ≡ read_record kind body.now }
 {

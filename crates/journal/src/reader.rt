@@ -5,7 +5,7 @@ use crate::bodies::front;
 use crate::faults::ReadFault;
 use crate::kinds::Placed;
 
-// The journal's bytes and the place of the next record among them, by which clauses speak of it: a reader with a position is a rule of the project.
+// The journal's bytes and the place of the next record among them, by which clauses speak of it.
 #[derive(Drop)]
 pub struct Reader<'a> {
     bytes: &'a [u8],
