@@ -35,19 +35,19 @@ module _ {S : Type 0} (unauthorized : S → DayRecord → ℕ) (price : S → Mo
   standing_is : a.state.year.standing ≡ by
   standing_is = rw (sym same) (opened_is st by opened).0
 
-  pub final_refused : (r : Result (Unit {0}) AccountFault) (f : InputFault) → IsErr r → IsErrAnd r (λ e. e ≡ fault.Input f) → Err f ≡ checked_per_mille final → Called unauthorized price a (settling (record { final = final; interest = interest })) r a
+  pub final_refused : (r : Result (Unit {0}) AccountFault) (f : InputFault) → IsErr r → IsErrAnd r (λ e. e ≡ fault.Input f) → Err f ≡ checked_per_mille final → Called unauthorized price a (settling (record { final_increase = final; interest = interest })) r a
   final_refused r f is one e =
       let test = untaken (leb final whole) f input.PerMille final e in
       handed_on unauthorized price a _ r (fault.Input f) is one (rw (standing_is, (opened_is st by opened).1, test.0, test.1) refl)
 
   module _ (share : ℕ) (taken_final : Ok share ≡ checked_per_mille final) where
-    pub interest_refused : (r : Result (Unit {0}) AccountFault) (f : InputFault) → IsErr r → IsErrAnd r (λ e. e ≡ fault.Input f) → Err f ≡ checked_per_mille interest → Called unauthorized price a (settling (record { final = final; interest = interest })) r a
+    pub interest_refused : (r : Result (Unit {0}) AccountFault) (f : InputFault) → IsErr r → IsErrAnd r (λ e. e ≡ fault.Input f) → Err f ≡ checked_per_mille interest → Called unauthorized price a (settling (record { final_increase = final; interest = interest })) r a
     interest_refused r f is one e =
         let first = taken (leb final whole) input.PerMille share final taken_final in
         let test = untaken (leb interest whole) f input.PerMille interest e in
         handed_on unauthorized price a _ r (fault.Input f) is one (rw (standing_is, (opened_is st by opened).1, first.0, test.0, test.1) refl)
 
-    pub settled_already : (more : ℕ) (o : Opening) (t : Option SettlementTerms) → Ok more ≡ checked_per_mille interest → by ≡ standing_by o t → true ≡ is_some t → Called unauthorized price a (settling (record { final = final; interest = interest })) (Err fault.SettledAlready) a
+    pub settled_already : (more : ℕ) (o : Opening) (t : Option SettlementTerms) → Ok more ≡ checked_per_mille interest → by ≡ standing_by o t → true ≡ is_some t → Called unauthorized price a (settling (record { final_increase = final; interest = interest })) (Err fault.SettledAlready) a
     settled_already more o t taken_interest terms is =
         let first = taken (leb final whole) input.PerMille share final taken_final in
         let second = taken (leb interest whole) input.PerMille more interest taken_interest in

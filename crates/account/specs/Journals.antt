@@ -36,7 +36,7 @@ call_of (Post day) = posting day.month day.day (numbers_in day)
 call_of (Correct day) = correction day.month day.day (numbers_in day)
 call_of (Close month index interruptible firm) = closing month (record { index = index; interruptible = interruptible; firm = firm })
 call_of (Pay amount) = payment amount
-call_of (Settle final interest) = settling (record { final = final; interest = interest })
+call_of (Settle final interest) = settling (record { final_increase = final; interest = interest })
 
 -- what an account answers to a record, its entry in the history, and the account that it leaves
 abbrev pub refusal_of : Tariff → State → Record → Option AccountFault

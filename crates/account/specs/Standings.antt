@@ -10,7 +10,7 @@ abbrev pub standing_now : Standing → year.Standing
 standing_now NotOpened = year.not_opened
 standing_now (Running increase first last) = year.running (record { increase = increase.share; first = first.number; last = last.number })
 standing_now (Settled increase first last final_increase interest) =
-    year.settled (record { increase = increase.share; first = first.number; last = last.number }) (record { final = final_increase.share; interest = interest.share })
+    year.settled (record { increase = increase.share; first = first.number; last = last.number }) (record { final_increase = final_increase.share; interest = interest.share })
 
 -- the standing of an account that was opened, or the refusal before
 abbrev pub if_opened : year.Standing → Result year.Standing AccountFault

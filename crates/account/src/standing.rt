@@ -59,7 +59,7 @@ impl Standing {
                     last,
                 },
                 settlement: Some(SettlementTerms {
-                    increase: final_increase,
+                    final_increase,
                     interest,
                 }),
             }),

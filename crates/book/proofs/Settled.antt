@@ -14,10 +14,10 @@ use Rattle.book.specs.Years.{year_by}
 use Rattle.book.proofs.Outcomes.{passed, refused}
 
 -- a settlement of a running account
-module _ (y : MeterYear) (lines : List Line) (b : Contents) (same : record { year = y; lines = lines } ≡ b) (o : Opening) (t : Settlement) (s : Tariff) (final : t.final ≤ whole) (interest : t.interest ≤ whole) where
+module _ (y : MeterYear) (lines : List Line) (b : Contents) (same : record { year = y; lines = lines } ≡ b) (o : Opening) (t : Settlement) (s : Tariff) (final : t.final_increase ≤ whole) (interest : t.interest ≤ whole) where
   pub interim_open : length y.closings ≤ o.last → Err fault.InterimOpen ≡ outcome s (settling t) (state_of (running o) b)
   interim_open few =
-      let one : leb t.final whole ≡ true = grind (arith, nat_tests) in
+      let one : leb t.final_increase whole ≡ true = grind (arith, nat_tests) in
       let two : leb t.interest whole ≡ true = grind (arith, nat_tests) in
       let test : ltb o.last (length y.closings) ≡ false = grind (arith, nat_tests) in
       refused s (settling t) (state_of (running o) b) fault.InterimOpen (rw (one, two, sym same, test) refl)
@@ -25,7 +25,7 @@ module _ (y : MeterYear) (lines : List Line) (b : Contents) (same : record { yea
   pub settles : o.last < length y.closings →
       with_lines (year_by (settled o t) b.year) b.lines (by_account (due_in s (year_by (settled o t) b.year) b.lines)) ≡ outcome s (settling t) (state_of (running o) b)
   settles enough =
-      let one : leb t.final whole ≡ true = grind (arith, nat_tests) in
+      let one : leb t.final_increase whole ≡ true = grind (arith, nat_tests) in
       let two : leb t.interest whole ≡ true = grind (arith, nat_tests) in
       let test : ltb o.last (length y.closings) ≡ true = grind (arith, nat_tests) in
       let passes : first_failing (tests (settling t) (year_by (running o) b.year)) ≡ None = rw (one, two, sym same, test) refl in

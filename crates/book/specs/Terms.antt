@@ -9,7 +9,7 @@ abbrev pub opening_numbers : OpeningTerms → Opening
 opening_numbers o = record { increase = o.increase.share; first = o.first.number; last = o.last.number }
 
 abbrev pub settlement_numbers : SettlementTerms → Settlement
-settlement_numbers t = record { final = t.increase.share; interest = t.interest.share }
+settlement_numbers t = record { final_increase = t.final_increase.share; interest = t.interest.share }
 
 -- the standing of an account that was opened
 abbrev pub standing_by : Opening → Option SettlementTerms → Standing

@@ -17,7 +17,7 @@ pub struct OpeningTerms {
 // The increase that came to be final, and the interest on a refund.
 #[derive(Clone, Copy)]
 pub struct SettlementTerms {
-    pub increase: PerMille,
+    pub final_increase: PerMille,
     pub interest: PerMille,
 }
 

@@ -81,7 +81,7 @@ tests (closing month numbers) y =
     ((month == length y.closings), fault.NotEarliest) ∷ (is_complete y.leap y.days month, fault.LacksDay) ∷ []
 tests (payment amount) y = opened y ∷ (nat_le 1 amount && nat_le amount most_paid, fault.Payment) ∷ []
 tests (settling t) y =
-    opened y ∷ lawful (nat_le t.final whole && nat_le t.interest whole) input.PerMille ∷ (not (is_settled y.standing), fault.SettledAlready) ∷
+    opened y ∷ lawful (nat_le t.final_increase whole && nat_le t.interest whole) input.PerMille ∷ (not (is_settled y.standing), fault.SettledAlready) ∷
     (nat_lt (opening_of y.standing).last (length y.closings), fault.InterimOpen) ∷ []
 
 -- the days with one more or another record

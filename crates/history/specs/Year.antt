@@ -12,7 +12,7 @@ pub record Opening : Type 0 where
 
 -- what the settlement says: the final increase and the interest on a refund, each per mille
 pub record Settlement : Type 0 where
-  pub final : ℕ
+  pub final_increase : ℕ
   pub interest : ℕ
 
 -- an account is not opened, or running, or settled

@@ -83,7 +83,7 @@ impl<S: Schedule> Account<S> {
 
     // Settles the account at the increase that came to be final, with interest on a refund.
     pub fn settle(&mut self, final_increase: u16, interest: u16) -> Result<(), AccountFault>
-        ensures { Called S.unauthorized S.price self.old (settling (record { final = final_increase; interest = interest })) result self.new }
+        ensures { Called S.unauthorized S.price self.old (settling (record { final_increase = final_increase; interest = interest })) result self.new }
     {
         let terms = self.standing.terms()?;
         let final_increase = PerMille::try_from(final_increase)?;
@@ -93,7 +93,7 @@ impl<S: Schedule> Account<S> {
         }
         let opening = terms.opening;
         let settlement = SettlementTerms {
-            increase: final_increase,
+            final_increase,
             interest,
         };
         self.book.settle(&self.schedule, &opening, &settlement)?;
