@@ -1,0 +1,160 @@
+// What the tests share: schedules, days, and calls that are made and looked at.
+use account::Account;
+use gas::{ClosingNumbers, DayNumbers, Rate, Schedule, Therms};
+use history::AccountFault;
+use journal::{Day, Record};
+use pipelines::Northern;
+use riders::{Affordability, WithRider};
+use std::ops::Range;
+use std::process::Abort;
+use tariff::{Class, SmallDualFuel};
+
+pub type Small = Class<SmallDualFuel, Northern>;
+
+pub const SMALL: Small = Class {
+    terms: SmallDualFuel {
+        annual: Therms { count: 36_500 },
+    },
+    pipeline: Northern,
+};
+
+// At the highest rate: a month of 5,000,000 therms costs just 10^13.
+pub const DEAR: Affordability = Affordability {
+    rate: Rate { price: 2_000_000 },
+};
+
+// In a common year with no interim increase, with November the one interim month.
+pub const OPEN: Record = Record::Open {
+    leap: 0,
+    increase: 0,
+    first: 0,
+    last: 0,
+};
+
+// The first of November, on which nothing flowed.
+pub const QUIET: Day = Day {
+    month: 0,
+    day: 1,
+    kind: 0,
+    curtailed: 0,
+    nomination: 0,
+    receipts: 0,
+    reading: 0,
+    after_notice: 0,
+    supply_cost: 0,
+    variance_rate: 0,
+};
+
+// A day that is in balance: so many therms were nominated, received and used.
+pub fn even(month: u8, day: u8, therms: u32) -> Day {
+    Day {
+        month,
+        day,
+        nomination: therms,
+        receipts: therms,
+        reading: therms,
+        ..QUIET
+    }
+}
+
+// The closing of a month at the rates of the worked November.
+pub fn closing(month: u8) -> Record {
+    Record::Close {
+        month,
+        index: 30_000,
+        interruptible: 1_000,
+        firm: 1_000,
+    }
+}
+
+fn numbers(day: Day) -> DayNumbers {
+    DayNumbers {
+        kind: day.kind,
+        curtailed: day.curtailed,
+        nomination: day.nomination,
+        receipts: day.receipts,
+        reading: day.reading,
+        after_notice: day.after_notice,
+        supply_cost: day.supply_cost,
+        variance_rate: day.variance_rate,
+    }
+}
+
+// The call that a record is, made by its name.
+pub fn call<S: Schedule>(account: &mut Account<S>, record: Record) -> Result<(), AccountFault> {
+    match record {
+        Record::Open {
+            leap,
+            increase,
+            first,
+            last,
+        } => account.open(leap, increase, first, last),
+        Record::Post { day } => account.post(day.month, day.day, numbers(day)),
+        Record::Correct { day } => account.correct(day.month, day.day, numbers(day)),
+        Record::Close {
+            month,
+            index,
+            interruptible,
+            firm,
+        } => {
+            let rates = ClosingNumbers {
+                index,
+                interruptible,
+                firm,
+            };
+            account.close(month, rates)
+        }
+        Record::Pay { amount } => account.pay(amount),
+        Record::Settle {
+            final_increase,
+            interest,
+        } => account.settle(final_increase, interest),
+    }
+}
+
+// How many lines there are, what they add up to, and the open therms.
+pub fn answers<S: Schedule>(account: &Account<S>) -> (usize, i64, i64) {
+    (
+        account.line_count(),
+        account.total().amount,
+        account.open_therms().count,
+    )
+}
+
+pub fn accepts<S: Schedule>(rt: &impl Abort, account: &mut Account<S>, record: Record) {
+    assert_eq!(rt; call(account, record), Ok(()), "{record:?}");
+}
+
+// By its name and as a record, the call is refused with that number, and the account answers as before.
+pub fn refuses<S: Schedule>(rt: &impl Abort, account: &mut Account<S>, record: Record, number: u8) {
+    let before = answers(account);
+    let named = call(account, record);
+    let entered = account.enter(&record);
+    assert_eq!(rt;
+        named.map_err(AccountFault::number),
+        Err(number),
+        "{record:?}"
+    );
+    assert_eq!(rt; entered, named, "{record:?}");
+    assert_eq!(rt; answers(account), before, "{record:?}");
+}
+
+// Posts some days of a month, each with the same numbers.
+pub fn post<S: Schedule>(rt: &impl Abort, account: &mut Account<S>, days: Range<u8>, like: Day) {
+    for day in days {
+        accepts(
+            rt,
+            account,
+            Record::Post {
+                day: Day { day, ..like },
+            },
+        );
+    }
+}
+
+// Takes in so many payments of one millicent, each of which is a line.
+pub fn pay<S: Schedule>(rt: &impl Abort, account: &mut Account<S>, count: usize) {
+    for _ in 0..count {
+        accepts(rt, account, Record::Pay { amount: 1 });
+    }
+}
