@@ -121,6 +121,33 @@ pub fn answers<S: Schedule>(account: &Account<S>) -> (usize, i64, i64) {
     )
 }
 
+// A line as it stands in docs/HISTORY.md: its month, its item, therms and millicents.
+pub type Written = (u8, u8, i64, i64);
+
+// The line of a number, or the number of the refusal.
+pub fn written<S: Schedule>(account: &Account<S>, number: usize) -> Result<Written, u8> {
+    let line = account.line(number).map_err(AccountFault::number)?;
+    let heading = line.heading;
+    Ok((
+        heading.month(),
+        heading.item(),
+        line.therms.count,
+        line.money.amount,
+    ))
+}
+
+// The last lines of the account are these.
+pub fn ends_with<S: Schedule>(rt: &impl Abort, account: &Account<S>, lines: &[Written]) {
+    let count = account.line_count();
+    assert!(rt; lines.len() <= count);
+    for (index, line) in lines.iter().enumerate() {
+        assert_eq!(rt;
+            written(account, count - lines.len() + index + 1),
+            Ok(*line)
+        );
+    }
+}
+
 pub fn accepts<S: Schedule>(rt: &impl Abort, account: &mut Account<S>, record: Record) {
     assert_eq!(rt; call(account, record), Ok(()), "{record:?}");
 }

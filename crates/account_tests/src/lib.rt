@@ -2,6 +2,20 @@
 #![tactic(auto)]
 
 #[cfg(test)]
+mod entering;
+#[cfg(test)]
+mod first_days;
+#[cfg(test)]
 mod fixtures;
 #[cfg(test)]
+mod limits;
+#[cfg(test)]
+mod november;
+#[cfg(test)]
+mod overruns;
+#[cfg(test)]
+mod questions;
+#[cfg(test)]
 mod refusals;
+#[cfg(test)]
+mod room;

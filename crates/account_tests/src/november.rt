@@ -1,0 +1,132 @@
+// The worked November of docs/HISTORY.md on the code, by calls and by records, and a correction behind it. The figures are that page's.
+use crate::fixtures::{SMALL, Written, answers, closing, ends_with, even};
+use account::Account;
+use gas::{ClosingNumbers, DayNumbers, PerMille, Schedule};
+use history::AccountFault;
+use journal::{Day, Record};
+use riders::{Franchise, Interim, Rider};
+use std::test::Fail;
+
+const FRANCHISE: Franchise = Franchise {
+    share: PerMille { share: 50 },
+};
+
+const LINES: [Written; 11] = [
+    (0, 1, 0, 15_550_000),
+    (0, 2, 0, 37_263_000),
+    (0, 9, 0, 7_235_381),
+    (0, 10, 0, 3_002_419),
+    (0, 2, 0, -124_210),
+    (0, 4, 0, 65_700),
+    (0, 5, 10, -310_000),
+    (0, 9, 0, -17_017),
+    (0, 10, 0, -19_276),
+    (12, 11, 0, -2_046_960),
+    (12, 12, 0, -40_939),
+];
+
+// A normal day with nomination, receipts and reading of 100.
+const FULL: DayNumbers = DayNumbers {
+    kind: 0,
+    curtailed: 0,
+    nomination: 100,
+    receipts: 100,
+    reading: 100,
+    after_notice: 0,
+    supply_cost: 0,
+    variance_rate: 0,
+};
+
+const RATES: ClosingNumbers = ClosingNumbers {
+    index: 30_000,
+    interruptible: 1_000,
+    firm: 1_000,
+};
+
+#[test]
+fn by_calls(rt: HostRuntime) -> Result<(), Fail> {
+    let mut account = Account::new(FRANCHISE.on(Interim.on(SMALL)));
+    account.open(0, 137, 0, 0)?;
+    for day in 1..31 {
+        account.post(0, day, FULL)?;
+        assert_eq!(rt; answers(&account), (0, 0, 0));
+    }
+    account.close(0, RATES)?;
+    assert_eq!(rt; answers(&account), (4, 63_050_800, 0));
+    account.correct(
+        0,
+        30,
+        DayNumbers {
+            reading: 90,
+            ..FULL
+        },
+    )?;
+    assert_eq!(rt; answers(&account), (9, 62_645_997, 0));
+    account.settle(100, 20)?;
+    assert_eq!(rt; answers(&account), (11, 60_558_098, 0));
+    ends_with(&rt, &account, &LINES);
+    Ok(())
+}
+
+// That November by records, on a new account.
+fn enter<S: Schedule>(account: &mut Account<S>) -> Result<(), AccountFault> {
+    account.enter(&Record::Open {
+        leap: 0,
+        increase: 137,
+        first: 0,
+        last: 0,
+    })?;
+    for day in 1..31 {
+        account.enter(&Record::Post {
+            day: even(0, day, 100),
+        })?;
+    }
+    account.enter(&closing(0))?;
+    account.enter(&Record::Correct {
+        day: Day {
+            reading: 90,
+            ..even(0, 30, 100)
+        },
+    })?;
+    account.enter(&Record::Settle {
+        final_increase: 100,
+        interest: 20,
+    })
+}
+
+#[test]
+fn by_records(rt: HostRuntime) -> Result<(), Fail> {
+    let mut account = Account::new(FRANCHISE.on(Interim.on(SMALL)));
+    enter(&mut account)?;
+    assert_eq!(rt; answers(&account), (11, 60_558_098, 0));
+    ends_with(&rt, &account, &LINES);
+    Ok(())
+}
+
+// What is written where day 29 is read at 80, too. By hand: of 2,970 therms item 2 is 36,890,370; item 4 is 30 × 6,570, and item 5 −30 × 31,000. At 137 item 9 is 7,184,331 and item 10 2,944,590, at 100 they are 5,244,037 and 2,847,575. So the refund is 61,836,391 − 59,799,082 = 2,037,309, and the interest 40,746. The functions of figures/history.py, with this call behind the others, write the same lines.
+const CORRECTED: [Written; 7] = [
+    (0, 2, 0, -248_420),
+    (0, 4, 0, 131_400),
+    (0, 5, 20, -620_000),
+    (0, 9, 0, -34_033),
+    (0, 10, 0, -38_553),
+    (12, 11, 0, 9_651),
+    (12, 12, 0, 193),
+];
+
+#[test]
+fn a_correction_moves_refund_and_interest(rt: HostRuntime) -> Result<(), Fail> {
+    let mut account = Account::new(FRANCHISE.on(Interim.on(SMALL)));
+    enter(&mut account)?;
+    account.correct(
+        0,
+        29,
+        DayNumbers {
+            reading: 80,
+            ..FULL
+        },
+    )?;
+    assert_eq!(rt; answers(&account), (18, 59_758_336, 0));
+    ends_with(&rt, &account, &CORRECTED);
+    Ok(())
+}
