@@ -1,5 +1,5 @@
 // A record of a journal does what its call does.
-use crate::fixtures::{SMALL, answers, call, closing, even, written};
+use crate::fixtures::{SMALL, answers, call, closing, correction, even, posting, written};
 use account::Account;
 use gas::Schedule;
 use journal::{Day, Record};
@@ -40,37 +40,33 @@ fn a_year_of_calls(rt: HostRuntime) {
         first: 0,
         last: 0,
     };
-    let correction = Record::Correct {
-        day: Day {
-            reading: 90,
-            ..even(0, 30, 100)
-        },
-    };
+    let corrected = correction(Day {
+        reading: 90,
+        ..even(0, 30, 100)
+    });
     let settling = Record::Settle {
         final_increase: 100,
         interest: 20,
     };
     let payment = Record::Pay { amount: 63_050_800 };
-    let before = [correction, closing(0), payment, settling, opening, opening];
+    let before = [corrected, closing(0), payment, settling, opening, opening];
     for record in before {
         both(&rt, &mut named, &mut entered, record);
     }
     for day in 1..32 {
         let day = even(0, day, 100);
-        both(&rt, &mut named, &mut entered, Record::Post { day });
+        both(&rt, &mut named, &mut entered, posting(day));
     }
     let after = [
         settling,
         closing(0),
         closing(0),
-        correction,
+        corrected,
         payment,
         Record::Pay { amount: 0 },
         settling,
         settling,
-        Record::Post {
-            day: even(3, 29, 7),
-        },
+        posting(even(3, 29, 7)),
     ];
     for record in after {
         both(&rt, &mut named, &mut entered, record);

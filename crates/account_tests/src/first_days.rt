@@ -1,8 +1,10 @@
 // The gas year's first unauthorized day. Each of its unauthorized therms costs the day's supply cost and 300,000 millicents, one of any other day the supply cost and 600,000. All figures are by hand.
-use crate::fixtures::{OPEN, SMALL, Written, accepts, closing, ends_with, even};
+use crate::fixtures::{
+    OPEN, SMALL, Written, accepts, closing, correction, ends_with, even, posting,
+};
 use account::Account;
 use gas::Schedule;
-use journal::{Day, Record};
+use journal::Day;
 use std::process::Abort;
 
 // A curtailed day on which 10 therms were nominated, received and used, some of them after the notice.
@@ -40,11 +42,11 @@ fn close_both<S: Schedule>(rt: &impl Abort, account: &mut Account<S>) {
     accepts(rt, account, OPEN);
     for back in 1..32 {
         let day = december(32 - back);
-        accepts(rt, account, Record::Post { day });
+        accepts(rt, account, posting(day));
     }
     for back in 1..31 {
         let day = november(31 - back);
-        accepts(rt, account, Record::Post { day });
+        accepts(rt, account, posting(day));
     }
     accepts(rt, account, closing(0));
     accepts(rt, account, closing(1));
@@ -73,12 +75,12 @@ fn a_correction_makes_another_day_the_first(rt: HostRuntime) {
     close_both(&rt, &mut account);
     // 4 × 302,000 on November 20; each of the 10 therms of December 5 costs 300,000 more
     let day = curtailed(0, 20, 4, 2_000);
-    accepts(&rt, &mut account, Record::Correct { day });
+    accepts(&rt, &mut account, correction(day));
     assert_eq!(rt; account.line_count(), 7);
     ends_with(&rt, &account, &[(0, 6, 0, 1_208_000), (1, 6, 0, 3_000_000)]);
     // 3 × 300,000 on November 10, and each of the 4 therms of the 20th 300,000 more
     let day = curtailed(0, 10, 3, 0);
-    accepts(&rt, &mut account, Record::Correct { day });
+    accepts(&rt, &mut account, correction(day));
     assert_eq!(rt; account.line_count(), 8);
     ends_with(&rt, &account, &[(0, 6, 0, 2_100_000)]);
 }
@@ -88,9 +90,9 @@ fn a_correction_takes_the_first_day_away(rt: HostRuntime) {
     let mut account = Account::new(SMALL);
     close_both(&rt, &mut account);
     let day = curtailed(0, 20, 4, 2_000);
-    accepts(&rt, &mut account, Record::Correct { day });
+    accepts(&rt, &mut account, correction(day));
     let day = november(20);
-    accepts(&rt, &mut account, Record::Correct { day });
+    accepts(&rt, &mut account, correction(day));
     assert_eq!(rt; account.line_count(), 9);
     ends_with(
         &rt,
@@ -99,7 +101,7 @@ fn a_correction_takes_the_first_day_away(rt: HostRuntime) {
     );
     // then December 20 is the first: 10 × 301,000 less, and 2 × 300,000 less
     let day = even(1, 5, 10);
-    accepts(&rt, &mut account, Record::Correct { day });
+    accepts(&rt, &mut account, correction(day));
     assert_eq!(rt; account.line_count(), 10);
     ends_with(&rt, &account, &[(1, 6, 0, -3_610_000)]);
 }

@@ -4,7 +4,7 @@ use gas::{ClosingNumbers, DayNumbers, Rate, Schedule, Therms};
 use history::AccountFault;
 use journal::{Day, Record};
 use pipelines::Northern;
-use riders::{Affordability, WithRider};
+use riders::Affordability;
 use std::ops::Range;
 use std::process::Abort;
 use tariff::{Class, SmallDualFuel};
@@ -55,6 +55,14 @@ pub fn even(month: u8, day: u8, therms: u32) -> Day {
         reading: therms,
         ..QUIET
     }
+}
+
+pub fn posting(day: Day) -> Record {
+    Record::Post { day }
+}
+
+pub fn correction(day: Day) -> Record {
+    Record::Correct { day }
 }
 
 // The closing of a month at the rates of the worked November.
@@ -169,13 +177,7 @@ pub fn refuses<S: Schedule>(rt: &impl Abort, account: &mut Account<S>, record: R
 // Posts some days of a month, each with the same numbers.
 pub fn post<S: Schedule>(rt: &impl Abort, account: &mut Account<S>, days: Range<u8>, like: Day) {
     for day in days {
-        accepts(
-            rt,
-            account,
-            Record::Post {
-                day: Day { day, ..like },
-            },
-        );
+        accepts(rt, account, posting(Day { day, ..like }));
     }
 }
 

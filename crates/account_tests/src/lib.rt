@@ -1,4 +1,4 @@
-// Tests of an account: refusals in their order, limits, prices past theirs, room for lines, worked figures, questions, and records as calls.
+// Tests of an account: refusals in their order, limits, prices past theirs, room for lines, worked figures, questions, records as calls, and whole journals.
 #![tactic(auto)]
 
 #[cfg(test)]
@@ -13,6 +13,8 @@ mod limits;
 mod november;
 #[cfg(test)]
 mod overruns;
+#[cfg(test)]
+mod playing;
 #[cfg(test)]
 mod questions;
 #[cfg(test)]

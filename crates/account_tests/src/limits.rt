@@ -1,5 +1,7 @@
 // The limits of what is told, met and passed by one, and the largest numbers that there are.
-use crate::fixtures::{OPEN, QUIET, SMALL, accepts, closing, even, post, refuses, written};
+use crate::fixtures::{
+    OPEN, QUIET, SMALL, accepts, closing, correction, even, post, posting, refuses, written,
+};
 use account::Account;
 use journal::{Day, Record};
 use std::process::Abort;
@@ -50,6 +52,7 @@ const FULL: Day = Day {
     variance_rate: 2_000_000,
 };
 
+// That day with each number past its limit by one, and as high as its type holds.
 const PAST: [(Day, u8); 23] = [
     (Day { month: 12, ..FULL }, 3),
     (Day { month: 255, ..FULL }, 3),
@@ -177,12 +180,12 @@ const PAST: [(Day, u8); 23] = [
 fn days(rt: HostRuntime) {
     let mut account = Account::new(SMALL);
     accepts(&rt, &mut account, OPEN);
-    accepts(&rt, &mut account, Record::Post { day: FULL });
+    accepts(&rt, &mut account, posting(FULL));
     for (day, number) in PAST {
-        refuses(&rt, &mut account, Record::Post { day }, number);
-        refuses(&rt, &mut account, Record::Correct { day }, number);
+        refuses(&rt, &mut account, posting(day), number);
+        refuses(&rt, &mut account, correction(day), number);
     }
-    accepts(&rt, &mut account, Record::Correct { day: FULL });
+    accepts(&rt, &mut account, correction(FULL));
 }
 
 // Of each month but February, the day past its end.
@@ -205,32 +208,11 @@ fn whole_year(rt: &impl Abort, leap: u8, past_february: u8) {
     let mut account = Account::new(SMALL);
     accepts(rt, &mut account, opening(leap, 0, 0, 11));
     post(rt, &mut account, 1..past_february, even(3, 0, 0));
-    refuses(
-        rt,
-        &mut account,
-        Record::Post {
-            day: even(3, past_february, 0),
-        },
-        4,
-    );
+    refuses(rt, &mut account, posting(even(3, past_february, 0)), 4);
     for (month, past) in PAST_ENDS {
         post(rt, &mut account, 1..past, even(month, 0, 0));
-        refuses(
-            rt,
-            &mut account,
-            Record::Post {
-                day: even(month, past, 0),
-            },
-            4,
-        );
-        refuses(
-            rt,
-            &mut account,
-            Record::Correct {
-                day: even(month, past, 0),
-            },
-            4,
-        );
+        refuses(rt, &mut account, posting(even(month, past, 0)), 4);
+        refuses(rt, &mut account, correction(even(month, past, 0)), 4);
     }
     for month in 0..12 {
         accepts(rt, &mut account, closing(month));

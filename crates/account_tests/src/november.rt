@@ -1,5 +1,5 @@
 // The worked November of docs/HISTORY.md on the code, by calls and by records, and a correction behind it. The figures are that page's.
-use crate::fixtures::{SMALL, Written, answers, closing, ends_with, even};
+use crate::fixtures::{QUIET, SMALL, Written, answers, closing, ends_with, even, post, posting};
 use account::Account;
 use gas::{ClosingNumbers, DayNumbers, PerMille, Schedule};
 use history::AccountFault;
@@ -7,11 +7,11 @@ use journal::{Day, Record};
 use riders::{Franchise, Interim, Rider};
 use std::test::Fail;
 
-const FRANCHISE: Franchise = Franchise {
+pub const FRANCHISE: Franchise = Franchise {
     share: PerMille { share: 50 },
 };
 
-const LINES: [Written; 11] = [
+pub const LINES: [Written; 11] = [
     (0, 1, 0, 15_550_000),
     (0, 2, 0, 37_263_000),
     (0, 9, 0, 7_235_381),
@@ -68,30 +68,38 @@ fn by_calls(rt: HostRuntime) -> Result<(), Fail> {
     Ok(())
 }
 
+// Its records beside the posts and the closing.
+pub const OPENING: Record = Record::Open {
+    leap: 0,
+    increase: 137,
+    first: 0,
+    last: 0,
+};
+
+pub const CORRECTION: Record = Record::Correct {
+    day: Day {
+        day: 30,
+        nomination: 100,
+        receipts: 100,
+        reading: 90,
+        ..QUIET
+    },
+};
+
+pub const SETTLING: Record = Record::Settle {
+    final_increase: 100,
+    interest: 20,
+};
+
 // That November by records, on a new account.
 fn enter<S: Schedule>(account: &mut Account<S>) -> Result<(), AccountFault> {
-    account.enter(&Record::Open {
-        leap: 0,
-        increase: 137,
-        first: 0,
-        last: 0,
-    })?;
+    account.enter(&OPENING)?;
     for day in 1..31 {
-        account.enter(&Record::Post {
-            day: even(0, day, 100),
-        })?;
+        account.enter(&posting(even(0, day, 100)))?;
     }
     account.enter(&closing(0))?;
-    account.enter(&Record::Correct {
-        day: Day {
-            reading: 90,
-            ..even(0, 30, 100)
-        },
-    })?;
-    account.enter(&Record::Settle {
-        final_increase: 100,
-        interest: 20,
-    })
+    account.enter(&CORRECTION)?;
+    account.enter(&SETTLING)
 }
 
 #[test]
@@ -128,5 +136,64 @@ fn a_correction_moves_refund_and_interest(rt: HostRuntime) -> Result<(), Fail> {
     )?;
     assert_eq!(rt; answers(&account), (18, 59_758_336, 0));
     ends_with(&rt, &account, &CORRECTED);
+    Ok(())
+}
+
+// With December the one interim month and no franchise rider. By hand, of 31 days at 100 therms: item 2 is 38,505,100, and item 9 137 per mille of 54,055,100, which at 100 per mille is 5,405,510. The refund is 2,000,039. November has no item 9.
+const DECEMBER: [Written; 7] = [
+    (0, 1, 0, 15_550_000),
+    (0, 2, 0, 37_263_000),
+    (1, 1, 0, 15_550_000),
+    (1, 2, 0, 38_505_100),
+    (1, 9, 0, 7_405_549),
+    (12, 11, 0, -2_000_039),
+    (12, 12, 0, -40_001),
+];
+
+#[test]
+fn an_increase_is_of_the_interim_months_alone(rt: HostRuntime) -> Result<(), Fail> {
+    let mut account = Account::new(Interim.on(SMALL));
+    account.open(0, 137, 1, 1)?;
+    post(&rt, &mut account, 1..31, even(0, 0, 100));
+    post(&rt, &mut account, 1..32, even(1, 0, 100));
+    account.close(0, RATES)?;
+    assert_eq!(rt; account.settle(100, 20), Err(AccountFault::InterimOpen));
+    account.close(1, RATES)?;
+    account.settle(100, 20)?;
+    assert_eq!(rt; account.line_count(), 7);
+    ends_with(&rt, &account, &DECEMBER);
+    Ok(())
+}
+
+// Nothing is charged where the final increase is the higher one. A settled account goes on: with a December of no interim month, a payment, and a correction after which there is still no refund.
+#[test]
+fn a_higher_final_increase_costs_nothing(rt: HostRuntime) -> Result<(), Fail> {
+    let mut account = Account::new(Interim.on(SMALL));
+    account.open(0, 137, 0, 0)?;
+    post(&rt, &mut account, 1..31, even(0, 0, 100));
+    account.close(0, RATES)?;
+    account.settle(138, 20)?;
+    assert_eq!(rt; answers(&account), (3, 60_048_381, 0));
+    post(&rt, &mut account, 1..32, even(1, 0, 100));
+    account.close(1, RATES)?;
+    account.pay(3_000_000)?;
+    account.correct(
+        1,
+        1,
+        DayNumbers {
+            supply_cost: 1,
+            ..FULL
+        },
+    )?;
+    assert_eq!(rt; account.line_count(), 6);
+    ends_with(
+        &rt,
+        &account,
+        &[
+            (1, 1, 0, 15_550_000),
+            (1, 2, 0, 38_505_100),
+            (12, 13, 0, -3_000_000),
+        ],
+    );
     Ok(())
 }

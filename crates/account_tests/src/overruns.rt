@@ -1,6 +1,6 @@
 // Prices past 10^13, refused with 28 and with the month, the item and the layer.
 use crate::fixtures::{
-    DEAR, OPEN, QUIET, SMALL, accepts, answers, call, closing, even, post, refuses,
+    DEAR, OPEN, QUIET, SMALL, accepts, call, closing, correction, even, post, refuses,
 };
 use account::Account;
 use gas::{Item, Layer, PerMille, Schedule, ScheduleFault};
@@ -85,18 +85,13 @@ fn the_limit_itself_is_lawful(rt: HostRuntime) {
     overruns(
         &rt,
         &mut account,
-        Record::Correct { day },
+        correction(day),
         0,
         Item::Affordability,
         Layer::Affordability,
     );
-    accepts(
-        &rt,
-        &mut account,
-        Record::Correct {
-            day: even(0, 26, 0),
-        },
-    );
+    accepts(&rt, &mut account, correction(even(0, 26, 0)));
+    assert_eq!(rt; account.line_count(), 3);
 }
 
 // Daily balancing, 30 × 200,000 × 2,000,000 of a critical month with nothing nominated, is too much at the class, and so is affordability at its rider.
@@ -138,7 +133,7 @@ fn the_lowest_month_comes_first(rt: HostRuntime) {
         Item::Interim,
         Layer::Interim,
     );
-    accepts(&rt, &mut account, Record::Correct { day: even(0, 1, 0) });
+    accepts(&rt, &mut account, correction(even(0, 1, 0)));
     overruns(
         &rt,
         &mut account,
@@ -147,7 +142,7 @@ fn the_lowest_month_comes_first(rt: HostRuntime) {
         Item::Interim,
         Layer::Interim,
     );
-    accepts(&rt, &mut account, Record::Correct { day: even(1, 1, 0) });
+    accepts(&rt, &mut account, correction(even(1, 1, 0)));
     accepts(&rt, &mut account, settling(1_000));
 }
 
@@ -169,18 +164,12 @@ fn the_openings_increase_comes_first(rt: HostRuntime) {
     overruns(
         &rt,
         &mut account,
-        Record::Correct { day },
+        correction(day),
         0,
         Item::Franchise,
         Layer::Franchise,
     );
-    accepts(
-        &rt,
-        &mut account,
-        Record::Correct {
-            day: even(0, 25, 100_000),
-        },
-    );
+    accepts(&rt, &mut account, correction(even(0, 25, 100_000)));
 }
 
 // By hand: of 25 days with 200,000 unauthorized therms each, and one with a single one, all cost 2,000,000 a therm and are past 10^13 together. Where December 1 is the year's first unauthorized day it costs 300,000 less a therm.
@@ -212,7 +201,7 @@ fn a_correction_is_refused_for_another_month(rt: HostRuntime) {
     overruns(
         &rt,
         &mut account,
-        Record::Correct { day: earlier },
+        correction(earlier),
         1,
         Item::UnauthorizedUse,
         Layer::Class,
@@ -221,5 +210,5 @@ fn a_correction_is_refused_for_another_month(rt: HostRuntime) {
         curtailed: 0,
         ..earlier
     };
-    accepts(&rt, &mut account, Record::Correct { day });
+    accepts(&rt, &mut account, correction(day));
 }

@@ -1,10 +1,11 @@
 // What an account answers to questions.
-use crate::fixtures::{OPEN, SMALL, accepts, answers, closing, ends_with, even, post, written};
+use crate::fixtures::{
+    OPEN, SMALL, accepts, answers, closing, correction, ends_with, even, post, posting, written,
+};
 use account::Account;
 use gas::Schedule;
 use history::AccountFault;
 use journal::{Day, Record};
-use std::process::Abort;
 
 // The peak day of a month, or the number of the refusal.
 fn peak<S: Schedule>(account: &Account<S>, month: u8) -> Result<Option<u8>, u8> {
@@ -45,13 +46,7 @@ fn of_a_line(rt: HostRuntime) {
 fn of_a_peak_day(rt: HostRuntime) {
     let mut account = Account::new(SMALL);
     accepts(&rt, &mut account, OPEN);
-    accepts(
-        &rt,
-        &mut account,
-        Record::Post {
-            day: even(1, 31, 90),
-        },
-    );
+    accepts(&rt, &mut account, posting(even(1, 31, 90)));
     assert_eq!(rt; peak(&account, 0), Ok(None));
     for (day, reading, answer) in [
         (12, 0, 12),
@@ -60,22 +55,10 @@ fn of_a_peak_day(rt: HostRuntime) {
         (1, 79, 7),
         (29, 81, 29),
     ] {
-        accepts(
-            &rt,
-            &mut account,
-            Record::Post {
-                day: even(0, day, reading),
-            },
-        );
+        accepts(&rt, &mut account, posting(even(0, day, reading)));
         assert_eq!(rt; peak(&account, 0), Ok(Some(answer)));
     }
-    accepts(
-        &rt,
-        &mut account,
-        Record::Correct {
-            day: even(0, 29, 10),
-        },
-    );
+    accepts(&rt, &mut account, correction(even(0, 29, 10)));
     assert_eq!(rt; peak(&account, 0), Ok(Some(7)));
     assert_eq!(rt; peak(&account, 1), Ok(Some(31)));
 }
@@ -90,21 +73,9 @@ fn of_equal_peaks(rt: HostRuntime) {
         receipts: 100,
         ..even(0, 3, 10)
     };
-    accepts(&rt, &mut account, Record::Post { day: received });
-    accepts(
-        &rt,
-        &mut account,
-        Record::Post {
-            day: even(0, 4, 20),
-        },
-    );
-    accepts(
-        &rt,
-        &mut account,
-        Record::Post {
-            day: even(0, 9, 20),
-        },
-    );
+    accepts(&rt, &mut account, posting(received));
+    accepts(&rt, &mut account, posting(even(0, 4, 20)));
+    accepts(&rt, &mut account, posting(even(0, 9, 20)));
     let answer = peak(&account, 0);
     assert!(rt; answer == Ok(Some(4)) || answer == Ok(Some(9)));
 }
@@ -124,18 +95,12 @@ fn of_the_open_therms(rt: HostRuntime) {
         receipts: 5,
         ..even(1, 1, 1)
     };
-    accepts(&rt, &mut account, Record::Post { day: over });
+    accepts(&rt, &mut account, posting(over));
     assert_eq!(rt; answers(&account), (0, 0, -86));
     accepts(&rt, &mut account, closing(0));
     // by hand: 90 therms are bought at 120 percent of 30,000 and at 1,000
     ends_with(&rt, &account, &[(0, 5, -90, 3_330_000)]);
     assert_eq!(rt; account.open_therms().count, 4);
-    accepts(
-        &rt,
-        &mut account,
-        Record::Correct {
-            day: even(1, 1, 200_000),
-        },
-    );
+    accepts(&rt, &mut account, correction(even(1, 1, 200_000)));
     assert_eq!(rt; account.open_therms().count, 0);
 }

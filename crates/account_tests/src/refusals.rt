@@ -1,5 +1,7 @@
 // The refusals of each call in their order. A call begins with every fault that can go together, and loses the first of them at each step, until it is accepted.
-use crate::fixtures::{DEAR, OPEN, QUIET, SMALL, accepts, closing, even, pay, post, refuses};
+use crate::fixtures::{
+    DEAR, OPEN, QUIET, SMALL, accepts, closing, correction, even, pay, post, posting, refuses,
+};
 use account::Account;
 use gas::Schedule;
 use journal::{Day, Record};
@@ -93,66 +95,35 @@ fn an_opening(rt: HostRuntime) {
 #[test]
 fn a_post(rt: HostRuntime) {
     let mut account = Account::new(SMALL);
-    refuses(&rt, &mut account, Record::Post { day: FAULTY }, 20);
-    refuses(&rt, &mut account, Record::Post { day: QUIET }, 20);
+    refuses(&rt, &mut account, posting(FAULTY), 20);
+    refuses(&rt, &mut account, posting(QUIET), 20);
     accepts(&rt, &mut account, OPEN);
-    accepts(&rt, &mut account, Record::Post { day: QUIET });
+    accepts(&rt, &mut account, posting(QUIET));
     for (day, number) in FAULTY_DAYS {
-        refuses(&rt, &mut account, Record::Post { day }, number);
+        refuses(&rt, &mut account, posting(day), number);
     }
-    refuses(&rt, &mut account, Record::Post { day: QUIET }, 22);
-    accepts(
-        &rt,
-        &mut account,
-        Record::Post {
-            day: Day { day: 2, ..QUIET },
-        },
-    );
+    refuses(&rt, &mut account, posting(QUIET), 22);
+    accepts(&rt, &mut account, posting(Day { day: 2, ..QUIET }));
 }
 
 // A day that is not posted is of an open month, and changes no line: so 23 excludes 28 and 29.
 #[test]
 fn a_correction(rt: HostRuntime) {
     let mut account = Account::new(DEAR.on(SMALL));
-    refuses(&rt, &mut account, Record::Correct { day: FAULTY }, 20);
-    refuses(&rt, &mut account, Record::Correct { day: QUIET }, 20);
+    refuses(&rt, &mut account, correction(FAULTY), 20);
+    refuses(&rt, &mut account, correction(QUIET), 20);
     accepts(&rt, &mut account, OPEN);
     post_november(&rt, &mut account);
     accepts(&rt, &mut account, closing(0));
     pay(&rt, &mut account, 1_021);
     for (day, number) in FAULTY_DAYS {
-        refuses(&rt, &mut account, Record::Correct { day }, number);
+        refuses(&rt, &mut account, correction(day), number);
     }
-    refuses(
-        &rt,
-        &mut account,
-        Record::Correct { day: even(1, 1, 1) },
-        23,
-    );
+    refuses(&rt, &mut account, correction(even(1, 1, 1)), 23);
     // one therm too many, and two lines that there is no room for
-    refuses(
-        &rt,
-        &mut account,
-        Record::Correct {
-            day: even(0, 26, 1),
-        },
-        28,
-    );
-    refuses(
-        &rt,
-        &mut account,
-        Record::Correct {
-            day: even(0, 1, 199_999),
-        },
-        29,
-    );
-    accepts(
-        &rt,
-        &mut account,
-        Record::Correct {
-            day: even(0, 1, 200_000),
-        },
-    );
+    refuses(&rt, &mut account, correction(even(0, 26, 1)), 28);
+    refuses(&rt, &mut account, correction(even(0, 1, 199_999)), 29);
+    accepts(&rt, &mut account, correction(even(0, 1, 200_000)));
 }
 
 #[test]
@@ -168,22 +139,10 @@ fn a_closing(rt: HostRuntime) {
     // December is not the earliest open month, and not complete either
     refuses(&rt, &mut account, rated(1, 2_000_000), 24);
     refuses(&rt, &mut account, rated(0, 2_000_000), 25);
-    accepts(
-        &rt,
-        &mut account,
-        Record::Post {
-            day: even(0, 30, 200_000),
-        },
-    );
+    accepts(&rt, &mut account, posting(even(0, 30, 200_000)));
     refuses(&rt, &mut account, rated(0, 2_000_000), 28);
     for day in 1..31 {
-        accepts(
-            &rt,
-            &mut account,
-            Record::Correct {
-                day: even(0, day, 100_000),
-            },
-        );
+        accepts(&rt, &mut account, correction(even(0, day, 100_000)));
     }
     refuses(&rt, &mut account, rated(0, 2_000_000), 29);
 }

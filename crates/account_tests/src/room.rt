@@ -1,5 +1,7 @@
 // The room for 1,024 lines. A call just fills it, or is refused with 29 for one line too many.
-use crate::fixtures::{OPEN, SMALL, accepts, closing, even, pay, post, refuses};
+use crate::fixtures::{
+    OPEN, SMALL, accepts, closing, correction, even, pay, post, posting, refuses,
+};
 use account::Account;
 use gas::Schedule;
 use journal::{Day, Record};
@@ -23,7 +25,7 @@ fn post_november<S: Schedule>(rt: &impl Abort, account: &mut Account<S>) {
         receipts: 12,
         ..even(0, 30, 10)
     };
-    accepts(rt, account, Record::Post { day });
+    accepts(rt, account, posting(day));
 }
 
 #[test]
@@ -34,20 +36,8 @@ fn payments(rt: HostRuntime) {
     refuses(&rt, &mut account, Record::Pay { amount: 1 }, 29);
     assert_eq!(rt; account.line_count(), 1_024);
     // what writes no line needs no room
-    accepts(
-        &rt,
-        &mut account,
-        Record::Post {
-            day: even(0, 1, 10),
-        },
-    );
-    accepts(
-        &rt,
-        &mut account,
-        Record::Correct {
-            day: even(0, 1, 20),
-        },
-    );
+    accepts(&rt, &mut account, posting(even(0, 1, 10)));
+    accepts(&rt, &mut account, correction(even(0, 1, 20)));
 }
 
 // Items 1, 2 and 5 are due.
@@ -69,13 +59,7 @@ fn a_closing_does_not_fit(rt: HostRuntime) {
     refuses(&rt, &mut account, closing(0), 29);
     // November is still open, and December not the next
     refuses(&rt, &mut account, closing(1), 24);
-    accepts(
-        &rt,
-        &mut account,
-        Record::Correct {
-            day: even(0, 30, 10),
-        },
-    );
+    accepts(&rt, &mut account, correction(even(0, 30, 10)));
     accepts(&rt, &mut account, closing(0));
     assert_eq!(rt; account.line_count(), 1_024);
 }
@@ -86,28 +70,16 @@ fn corrections(rt: HostRuntime) {
     let mut account = Account::new(SMALL);
     post_november(&rt, &mut account);
     accepts(&rt, &mut account, closing(0));
-    accepts(
-        &rt,
-        &mut account,
-        Record::Correct {
-            day: even(0, 7, 20),
-        },
-    );
+    accepts(&rt, &mut account, correction(even(0, 7, 20)));
     pay(&rt, &mut account, 1_019);
     assert_eq!(rt; account.line_count(), 1_023);
     let day = Day {
         receipts: 29,
         ..even(0, 15, 30)
     };
-    refuses(&rt, &mut account, Record::Correct { day }, 29);
+    refuses(&rt, &mut account, correction(day), 29);
     assert_eq!(rt; account.peak_day(0), Ok(Some(7)));
-    accepts(
-        &rt,
-        &mut account,
-        Record::Correct {
-            day: even(0, 15, 15),
-        },
-    );
+    accepts(&rt, &mut account, correction(even(0, 15, 15)));
     assert_eq!(rt; account.line_count(), 1_024);
 }
 
@@ -116,29 +88,16 @@ fn corrections_of_a_full_account(rt: HostRuntime) {
     let mut account = Account::new(SMALL);
     post_november(&rt, &mut account);
     accepts(&rt, &mut account, closing(0));
-    accepts(
-        &rt,
-        &mut account,
-        Record::Correct {
-            day: even(0, 7, 20),
-        },
-    );
+    accepts(&rt, &mut account, correction(even(0, 7, 20)));
     pay(&rt, &mut account, 1_020);
-    refuses(
-        &rt,
-        &mut account,
-        Record::Correct {
-            day: even(0, 15, 30),
-        },
-        29,
-    );
+    refuses(&rt, &mut account, correction(even(0, 15, 30)), 29);
     assert_eq!(rt; account.peak_day(0), Ok(Some(7)));
     // no line is due for another rate of a normal day, and none where a day takes over from another
     let day = Day {
         variance_rate: 2_000_000,
         ..even(0, 15, 10)
     };
-    accepts(&rt, &mut account, Record::Correct { day });
+    accepts(&rt, &mut account, correction(day));
     assert_eq!(rt; account.line_count(), 1_024);
 }
 
