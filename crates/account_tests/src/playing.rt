@@ -1,9 +1,10 @@
 // A whole journal of bytes, played into an account.
 use crate::fixtures::{SMALL, answers, closing, ends_with, even, posting};
 use crate::november::{CORRECTION, FRANCHISE, LINES, OPENING, SETTLING};
-use account::Account;
+use account::{Account, JournalFault};
 use gas::Schedule;
-use journal::{Reader, Record, write};
+use history::AccountFault;
+use journal::{Placed, Reader, Record, write};
 use riders::{Interim, Rider};
 use std::alloc::Global;
 use std::process::Abort;
@@ -96,14 +97,30 @@ fn november(heap: Global) -> Result<Vec<u8>, Fail> {
     Ok(journal)
 }
 
-// Enters the records of a journal one by one, at most 40 of them.
+// Enters the records of a journal one by one, at most 40 of them, and passes over the refused ones.
 fn enter<S: Schedule>(account: &mut Account<S>, journal: &[u8]) {
     let mut reader = Reader::new(journal);
     for _ in 0..40 {
         if let Ok(Some(placed)) = reader.next() {
-            let _ = account.enter(&placed.record);
+            let _ = account.enter_placed(&placed);
         }
     }
+}
+
+#[test]
+fn a_refusal_has_the_place_that_came_with_the_record(rt: HostRuntime) {
+    let mut account = Account::new(SMALL);
+    let placed = Placed {
+        place: 6,
+        record: OPENING,
+    };
+    let refused = JournalFault::Refused {
+        place: 6,
+        fault: AccountFault::OpenedAlready,
+    };
+    assert_eq!(rt; account.enter_placed(&placed), Ok(()));
+    assert_eq!(rt; account.enter_placed(&placed), Err(refused));
+    assert_eq!(rt; (refused.number(), refused.place()), (21, 6));
 }
 
 // The places are 6 for the opening, and 6 + 31 × 29 + 14 for all up to the first closing.
