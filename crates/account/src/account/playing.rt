@@ -56,8 +56,12 @@ impl<S: Schedule> Account<S> {
                     }
                 }
                 Ok(None) => break,
-                Err(fault) => {
-                    refusals.push(Refusal { number, fault }).unwrap();
+                Err(unread) => {
+                    let last = Refusal {
+                        number,
+                        fault: unread,
+                    };
+                    refusals.push(last).unwrap();
                     break;
                 }
             }
