@@ -1,10 +1,10 @@
 -- When a call is answered and leaves what its outcome says.
-use Rattle.std.proofs.Common.{◌≡◌, ℕ, Bool, true, false, ℤ, Some, Ok, Err, Result, true≢false, refl, sym, ◌∙◌}
+use Rattle.std.proofs.Common.{◌≡◌, ℕ, Bool, true, false, Some, Ok, Err, Result, true≢false, refl, sym, ◌∙◌}
 use Rattle.std.specs.Result.{IsErr, IsErrAnd}
 use Rattle.gas.specs.declared.day.DayRecord.{DayRecord}
 use Rattle.gas.specs.declared.items.Item.{Item}
-use Rattle.gas.specs.declared.items.ScheduleFault.{ScheduleFault}
 use Rattle.gas.specs.Facts.{MonthFacts}
+use Rattle.gas.specs.Limits.{Answer}
 use Rattle.history.specs.declared.faults.AccountFault.{AccountFault}
 use Rattle.history.specs.declared.faults.AccountFault.TheVariants as fault
 use Rattle.history.specs.Calls.{Call, State, closing, correction, first_failing, opening, outcome, payment, posting, settling, tests}
@@ -39,7 +39,7 @@ unopened not_opened f e = (refl, cc)
 unopened (running o) f e = absurd cc
 unopened (settled o t) f e = absurd cc
 
-module _ {S : Type 0} (unauthorized : S → DayRecord → ℕ) (price : S → MonthFacts → Item → Result ℤ ScheduleFault) (a : Holding S) (c : Call) where
+module _ {S : Type 0} (unauthorized : S → DayRecord → ℕ) (price : S → MonthFacts → Item → Answer) (a : Holding S) (c : Call) where
   -- a test of it fails
   pub fails : (f : AccountFault) → first_failing (tests c a.state.year) ≡ Some f → Called unauthorized price a c (Err f) a
   fails f e =

@@ -1,9 +1,9 @@
 -- When a record is answered by where the account stands alone.
-use Rattle.std.proofs.Common.{◌≡◌, ℕ, true, ℤ, Err, Result, refl, sym}
+use Rattle.std.proofs.Common.{◌≡◌, ℕ, true, Err, refl, sym}
 use Rattle.gas.specs.declared.day.DayRecord.{DayRecord}
 use Rattle.gas.specs.declared.items.Item.{Item}
-use Rattle.gas.specs.declared.items.ScheduleFault.{ScheduleFault}
 use Rattle.gas.specs.Facts.{MonthFacts}
+use Rattle.gas.specs.Limits.{Answer}
 use Rattle.history.specs.declared.faults.AccountFault.TheVariants as fault
 use Rattle.book.specs.Books.{Contents, state_of}
 use Rattle.account.specs.Calls.{Called}
@@ -16,7 +16,7 @@ use Rattle.account.specs.Journals.{call_of}
 use Rattle.account.proofs.Answered.{before_opening, fails, needs_opening}
 use Rattle.account.proofs.Openings.{opened_already}
 
-module _ {S : Type 0} (unauthorized : S → DayRecord → ℕ) (price : S → MonthFacts → Item → Result ℤ ScheduleFault) (sch : S) (at : code.Standing) (b : Contents) (a : Holding S) (same : record { schedule = sch; state = state_of (standing_now at) b } ≡ a) (r : Record) where
+module _ {S : Type 0} (unauthorized : S → DayRecord → ℕ) (price : S → MonthFacts → Item → Answer) (sch : S) (at : code.Standing) (b : Contents) (a : Holding S) (same : record { schedule = sch; state = state_of (standing_now at) b } ≡ a) (r : Record) where
   pub entered_unopened : at ≡ code.TheVariants.NotOpened → needs_opening (call_of r) ≡ true → Called unauthorized price a (call_of r) (Err fault.NotOpened) a
   entered_unopened new needs = fails unauthorized price a (call_of r) fault.NotOpened (before_opening (call_of r) a.state needs (rw (sym same, new) refl))
 

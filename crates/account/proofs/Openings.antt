@@ -1,14 +1,14 @@
 -- When an opening is answered and leaves what its outcome says.
-use Rattle.std.proofs.Common.{◌≡◌, ℕ, ◌+◌, ◌≤◌, Bool, true, leb, ◌&&◌, [], length, ℤ, None, Ok, Err, Result, append-nil, refl, sym, ap, ◌∙◌, arith}
+use Rattle.std.proofs.Common.{◌≡◌, ℕ, ◌+◌, ◌≤◌, Bool, true, leb, ◌&&◌, [], length, None, Ok, Err, Result, append-nil, refl, sym, ap, ◌∙◌, arith}
 use Rattle.std.specs.Result.{IsErr, IsErrAnd}
 use Rattle.gas.specs.declared.day.DayRecord.{DayRecord}
 use Rattle.gas.specs.declared.faults.InputFault.{InputFault}
 use Rattle.gas.specs.declared.faults.InputFault.TheVariants as input
 use Rattle.gas.specs.declared.items.Item.{Item}
-use Rattle.gas.specs.declared.items.ScheduleFault.{ScheduleFault}
 use Rattle.gas.specs.Facts.{MonthFacts}
 use Rattle.gas.specs.Inputs.{checked_mark, checked_per_mille, last_month, mark_number, unless, whole}
 use Rattle.gas.proofs.Made.{same_mark}
+use Rattle.gas.specs.Limits.{Answer}
 use Rattle.history.specs.declared.faults.AccountFault.{AccountFault}
 use Rattle.history.specs.declared.faults.AccountFault.TheVariants as fault
 use Rattle.history.specs.Calls.{Call, first_failing, learned, most_lines, opening, tests}
@@ -28,7 +28,7 @@ opened_of code.TheVariants.NotOpened other = absurd (other refl)
 opened_of (code.TheVariants.Running i f l) other = refl
 opened_of (code.TheVariants.Settled i f l n t) other = refl
 
-module _ {S : Type 0} (unauthorized : S → DayRecord → ℕ) (price : S → MonthFacts → Item → Result ℤ ScheduleFault) (sch : S) (at : code.Standing) (b : Contents) (a : Holding S) (same : record { schedule = sch; state = state_of (standing_now at) b } ≡ a) (leap increase first last : ℕ) where
+module _ {S : Type 0} (unauthorized : S → DayRecord → ℕ) (price : S → MonthFacts → Item → Answer) (sch : S) (at : code.Standing) (b : Contents) (a : Holding S) (same : record { schedule = sch; state = state_of (standing_now at) b } ≡ a) (leap increase first last : ℕ) where
   pub opened_already : (at ≡ code.TheVariants.NotOpened → ⊥) → Called unauthorized price a (opening leap (record { increase = increase; first = first; last = last })) (Err fault.OpenedAlready) a
   opened_already other = fails unauthorized price a _ fault.OpenedAlready (rw (sym same, opened_of at other) refl)
 

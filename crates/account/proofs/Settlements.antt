@@ -1,13 +1,13 @@
 -- When a settlement is refused before it reaches the book.
-use Rattle.std.proofs.Common.{◌≡◌, ℕ, true, leb, ℤ, Some, None, Ok, Err, is_some, Option, Result, true≢false, refl, sym}
+use Rattle.std.proofs.Common.{◌≡◌, ℕ, true, leb, Some, None, Ok, Err, is_some, Option, Result, true≢false, refl, sym}
 use Rattle.std.specs.Result.{IsErr, IsErrAnd}
 use Rattle.gas.specs.declared.day.DayRecord.{DayRecord}
 use Rattle.gas.specs.declared.faults.InputFault.{InputFault}
 use Rattle.gas.specs.declared.faults.InputFault.TheVariants as input
 use Rattle.gas.specs.declared.items.Item.{Item}
-use Rattle.gas.specs.declared.items.ScheduleFault.{ScheduleFault}
 use Rattle.gas.specs.Facts.{MonthFacts}
 use Rattle.gas.specs.Inputs.{checked_per_mille, whole}
+use Rattle.gas.specs.Limits.{Answer}
 use Rattle.history.specs.declared.faults.AccountFault.{AccountFault}
 use Rattle.history.specs.declared.faults.AccountFault.TheVariants as fault
 use Rattle.history.specs.Calls.{settling}
@@ -31,7 +31,7 @@ settled_is : (o : Opening) (t : Option SettlementTerms) → true ≡ is_some t �
 settled_is o None e = absurd (true≢false e)
 settled_is o (Some t) e = refl
 
-module _ {S : Type 0} (unauthorized : S → DayRecord → ℕ) (price : S → MonthFacts → Item → Result ℤ ScheduleFault) (sch : S) (st by : Standing) (b : Contents) (a : Holding S) (same : record { schedule = sch; state = state_of st b } ≡ a) (opened : Ok by ≡ if_opened st) (final interest : ℕ) where
+module _ {S : Type 0} (unauthorized : S → DayRecord → ℕ) (price : S → MonthFacts → Item → Answer) (sch : S) (st by : Standing) (b : Contents) (a : Holding S) (same : record { schedule = sch; state = state_of st b } ≡ a) (opened : Ok by ≡ if_opened st) (final interest : ℕ) where
   standing_is : a.state.year.standing ≡ by
   standing_is = rw (sym same) (opened_is st by opened).0
 

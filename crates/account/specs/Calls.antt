@@ -1,10 +1,10 @@
 -- What a call answers and leaves.
-use Rattle.std.specs.Prelude.{◌≡◌, ℕ, ℤ, OnErr, Result}
+use Rattle.std.specs.Prelude.{◌≡◌, ℕ, OnErr, Result}
 use Rattle.std.specs.Result.{result_err}
 use Rattle.gas.specs.declared.day.DayRecord.{DayRecord}
 use Rattle.gas.specs.declared.items.Item.{Item}
-use Rattle.gas.specs.declared.items.ScheduleFault.{ScheduleFault}
 use Rattle.gas.specs.Facts.{MonthFacts}
+use Rattle.gas.specs.Limits.{Answer}
 use Rattle.history.specs.declared.faults.AccountFault.{AccountFault}
 use Rattle.history.specs.Calls.{Call}
 use Rattle.history.specs.Prices.{tariff_by}
@@ -14,7 +14,7 @@ use Rattle.account.specs.Holdings.{Holding}
 -- step: on the tariff of the account's schedule, the answer and what the account then knows and has written are those of the call's outcome
 -- schedule: it stays
 -- refused: a refused call leaves the whole account as it was
-pub record Called {S : Type 0} (unauthorized : S → DayRecord → ℕ) (price : S → MonthFacts → Item → Result ℤ ScheduleFault) (a : Holding S) (c : Call) (answer : Result (Unit {0}) AccountFault) (b : Holding S) : Type 0 where
+pub record Called {S : Type 0} (unauthorized : S → DayRecord → ℕ) (price : S → MonthFacts → Item → Answer) (a : Holding S) (c : Call) (answer : Result (Unit {0}) AccountFault) (b : Holding S) : Type 0 where
   pub step : Step (tariff_by (unauthorized a.schedule) (price a.schedule)) a.state (record { call = c; refusal = result_err answer }) b.state
   pub schedule : b.schedule ≡ a.schedule
   pub refused : OnErr answer (b ≡ a)

@@ -5,9 +5,10 @@ use Rattle.gas.specs.declared.items.Item.TheVariants as items
 use Rattle.gas.specs.declared.items.Layer.TheVariants as layers
 use Rattle.gas.specs.Facts.{MonthFacts}
 use Rattle.gas.specs.Items.{all_items}
+use Rattle.gas.specs.Limits.{Answer}
 use Rattle.history.specs.Prices.{Tariff, tariff_by}
 use Rattle.pipelines.specs.Northern.{northern_day, northern_month}
-use Rattle.riders.specs.Riders.{Answer, fee, increase, increased, ridden}
+use Rattle.riders.specs.Riders.{fee, increase, increased, ridden}
 use Rattle.tariff.specs.Classes.{class_price, dual_fuel_use, small_basic, small_delivery}
 
 -- the therms that the site uses in a year

@@ -1,10 +1,11 @@
 -- What the program prints of a month on a schedule: a row for each item.
-use Rattle.std.specs.Prelude.{ℕ, List, [], ◌∷◌, ◌++◌, ℤ, Ok, Err, codes, decimal, Result}
+use Rattle.std.specs.Prelude.{ℕ, List, [], ◌∷◌, ◌++◌, ℤ, Ok, Err, codes, decimal}
 use Rattle.std.specs.Fmt.{signed_decimal}
 use Rattle.gas.specs.declared.items.Item.{Item}
 use Rattle.gas.specs.declared.items.ScheduleFault.{ScheduleFault}
 use Rattle.gas.specs.Faults.{schedule_values}
 use Rattle.gas.specs.Items.{item_number}
+use Rattle.gas.specs.Limits.{Answer}
 
 -- the case, the item and its amount
 abbrev pub amount_text : ℕ → Item → ℤ → List ℕ
@@ -18,11 +19,11 @@ values_text v = decimal v.0 ++ (codes " " ++ (decimal v.1 ++ (codes " " ++ (deci
 abbrev pub refusal_text : ℕ → Item → ScheduleFault → List ℕ
 refusal_text n item fault = decimal n ++ (codes " " ++ (decimal (item_number item) ++ (codes " refused " ++ values_text (schedule_values fault))))
 
-abbrev pub answer_text : ℕ → Item → Result ℤ ScheduleFault → List ℕ
+abbrev pub answer_text : ℕ → Item → Answer → List ℕ
 answer_text n item (Ok z) = amount_text n item z
 answer_text n item (Err fault) = refusal_text n item fault
 
 -- a row to a line
-abbrev pub table_text : ℕ → (Item → Result ℤ ScheduleFault) → List Item → List ℕ
+abbrev pub table_text : ℕ → (Item → Answer) → List Item → List ℕ
 table_text n price [] = []
 table_text n price (item ∷ items) = answer_text n item (price item) ++ (codes "\n" ++ table_text n price items)
