@@ -3,7 +3,7 @@
 
 mod account;
 mod faults;
-mod interim;
+mod inputs;
 mod standing;
 
 pub use account::Account;

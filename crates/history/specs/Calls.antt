@@ -52,6 +52,16 @@ lawful ok f = (ok, fault.Input f)
 abbrev pub opened : Year → Bool × AccountFault
 opened y = (is_opened y.standing, fault.NotOpened)
 
+-- the interim months, the leap mark, and the increase
+abbrev pub opening_input : ℕ → Opening → Tests
+opening_input leap o =
+    lawful (nat_le o.first last_month && (nat_le o.last last_month && nat_le o.first o.last)) input.Month ∷ lawful (nat_le leap 1) input.Mark ∷
+    lawful (nat_le o.increase whole) input.PerMille ∷ []
+
+-- the final increase and the interest
+abbrev pub settlement_input : Settlement → Bool × AccountFault
+settlement_input t = lawful (nat_le t.final_increase whole && nat_le t.interest whole) input.PerMille
+
 -- a month, a day of it, and what the day was
 abbrev pub day_input : Bool → ℕ → ℕ → DayNumbers → Tests
 day_input leap month day n =
@@ -71,9 +81,7 @@ most_paid = 10000000000000
 
 -- first whether the account is opened, then what is wrong with the input, lowest number first, then what else the state refuses, likewise
 abbrev pub tests : Call → Year → Tests
-tests (opening leap o) y =
-    (not (is_opened y.standing), fault.OpenedAlready) ∷ lawful (nat_le o.first last_month && (nat_le o.last last_month && nat_le o.first o.last)) input.Month ∷
-    lawful (nat_le leap 1) input.Mark ∷ lawful (nat_le o.increase whole) input.PerMille ∷ []
+tests (opening leap o) y = (not (is_opened y.standing), fault.OpenedAlready) ∷ opening_input leap o
 tests (posting month day n) y = day_tests y month day n (not (is_posted y month day), fault.PostedAlready)
 tests (correction month day n) y = day_tests y month day n (is_posted y month day, fault.NotPosted)
 tests (closing month numbers) y =
@@ -81,8 +89,7 @@ tests (closing month numbers) y =
     ((month == length y.closings), fault.NotEarliest) ∷ (is_complete y.leap y.days month, fault.LacksDay) ∷ []
 tests (payment amount) y = opened y ∷ (nat_le 1 amount && nat_le amount most_paid, fault.Payment) ∷ []
 tests (settling t) y =
-    opened y ∷ lawful (nat_le t.final_increase whole && nat_le t.interest whole) input.PerMille ∷ (not (is_settled y.standing), fault.SettledAlready) ∷
-    (nat_lt (opening_of y.standing).last (length y.closings), fault.InterimOpen) ∷ []
+    opened y ∷ settlement_input t ∷ (not (is_settled y.standing), fault.SettledAlready) ∷ (nat_lt (opening_of y.standing).last (length y.closings), fault.InterimOpen) ∷ []
 
 -- the days with one more or another record
 abbrev pub stored : Result DayRecord InputFault → Places → ℕ → Places

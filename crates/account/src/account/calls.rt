@@ -5,10 +5,10 @@ ghost use Rattle.account.specs.Calls.{Called};
 ghost use Rattle.account.specs.Journals.{call_of, numbers_in};
 
 use crate::account::Account;
-use crate::interim::interim_months;
+use crate::inputs::{opening_terms, settlement_terms};
 use crate::standing::Standing;
-use book::SettlementTerms;
-use gas::{ClosingNumbers, DayNumbers, PerMille, Schedule, mark};
+use book::OpeningTerms;
+use gas::{ClosingNumbers, DayNumbers, Schedule};
 use history::AccountFault;
 use journal::{Day, Record};
 
@@ -36,9 +36,12 @@ impl<S: Schedule> Account<S> {
         let Standing::NotOpened = self.standing else {
             return Err(AccountFault::OpenedAlready);
         };
-        let (first, last) = interim_months(first, last)?;
-        let leap = mark(leap)?;
-        let increase = PerMille::try_from(increase)?;
+        let (leap, terms) = opening_terms(leap, increase, first, last)?;
+        let OpeningTerms {
+            increase,
+            first,
+            last,
+        } = terms;
         self.book.begin(leap);
         self.standing = Standing::Running {
             increase,
@@ -86,23 +89,18 @@ impl<S: Schedule> Account<S> {
         ensures { Called S.unauthorized S.price self.old (settling (record { final_increase = final_increase; interest = interest })) result self.new }
     {
         let terms = self.standing.terms()?;
-        let final_increase = PerMille::try_from(final_increase)?;
-        let interest = PerMille::try_from(interest)?;
+        let settlement = settlement_terms(final_increase, interest)?;
         if terms.settlement.is_some() {
             return Err(AccountFault::SettledAlready);
         }
         let opening = terms.opening;
-        let settlement = SettlementTerms {
-            final_increase,
-            interest,
-        };
         self.book.settle(&self.schedule, &opening, &settlement)?;
         self.standing = Standing::Settled {
             increase: opening.increase,
             first: opening.first,
             last: opening.last,
-            final_increase,
-            interest,
+            final_increase: settlement.final_increase,
+            interest: settlement.interest,
         };
         Ok(())
     }
