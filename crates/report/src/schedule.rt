@@ -1,7 +1,7 @@
 // The schedule by which the program prices.
 ghost use Rattle.std.specs.Prelude.{◌≡◌};
 ghost use Rattle.history.specs.Prices.{tariff_by};
-ghost use Rattle.lines.specs.Tariffs.{fixed_tariff};
+ghost use Rattle.report.specs.Tariffs.{fixed_tariff};
 
 use gas::{PerMille, Schedule, Therms};
 use pipelines::Northern;

@@ -6,7 +6,7 @@ use Rattle.std.proofs.lemmas.Option.{get_or_from_slice_get, slice_get_within}
 use Rattle.std.specs.List.{slice_get}
 use Rattle.history.specs.declared.lines.Line.{Line}
 use Rattle.history.specs.Questions.{found, line_numbered}
-use Rattle.lines.specs.Rows.{line_text, lines_text}
+use Rattle.report.specs.Rows.{line_text, lines_text}
 
 was_found : (o : Option Line) (line : Line) → found o ≡ Ok line → o ≡ Some line
 was_found (Some x) line e = cc

@@ -1,7 +1,7 @@
 use Rattle.std.proofs.Common.{◌≡◌, ◌+◌, Ok, string_bytes}
 use Rattle.history.specs.Questions.{line_numbered}
-use Rattle.lines.proofs.Numbered.{one_more}
-use Rattle.lines.proofs.printing.write_lines.Goals as goal
+use Rattle.report.proofs.Numbered.{one_more}
+use Rattle.report.proofs.printing.write_lines.Goals as goal
 
 pub loop-index-preserved : goal.loop-index-preserved
 loop-index-preserved g c =

@@ -1,4 +1,4 @@
-use Rattle.lines.proofs.schedule.schedule.Goals as goal
+use Rattle.report.proofs.schedule.schedule.Goals as goal
 
 pub returns : goal.returns
 returns c = simp (c.on-2.ensures.rider, c.on-2.ensures.below, c.on.ensures.below)

@@ -1,7 +1,7 @@
 use Rattle.std.proofs.Common.{◌≡◌, ◌++◌, ap, string_bytes}
-use Rattle.lines.specs.Rows.{refusals_text}
-use Rattle.lines.proofs.Whole.{played_is_printed}
-use Rattle.lines.proofs.printing.played.Goals as goal
+use Rattle.report.specs.Rows.{refusals_text}
+use Rattle.report.proofs.Whole.{played_is_printed}
+use Rattle.report.proofs.printing.played.Goals as goal
 
 pub returns : goal.returns
 returns c =

@@ -1,6 +1,6 @@
 use Rattle.std.proofs.Common.{◌≡◌, ◌++◌, drop, string_bytes}
-use Rattle.lines.specs.Rows.{refusals_text}
-use Rattle.lines.proofs.printing.write_refusals.Given as goal
+use Rattle.report.specs.Rows.{refusals_text}
+use Rattle.report.proofs.printing.write_refusals.Given as goal
 
 abbrev pub invariant-loop-refusal : goal.invariant-loop-refusal
 invariant-loop-refusal l =

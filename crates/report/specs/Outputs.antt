@@ -4,8 +4,8 @@ use Rattle.account.specs.declared.faults.Refusal.{Refusal}
 use Rattle.account.specs.Playing.{Played}
 use Rattle.history.specs.Calls.{State}
 use Rattle.history.specs.Runs.{new_state}
-use Rattle.lines.specs.Tariffs.{fixed_tariff}
-use Rattle.lines.specs.Rows.{played_text}
+use Rattle.report.specs.Tariffs.{fixed_tariff}
+use Rattle.report.specs.Rows.{played_text}
 
 -- the text of the account that a journal makes of a new one, on the program's tariff, and of what was refused on the way
 abbrev pub PrintsPlayed : List ℕ → List ℕ → Type 0

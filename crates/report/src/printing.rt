@@ -1,8 +1,8 @@
 // All that the program prints.
 ghost use Rattle.std.specs.Prelude.{◌≡◌, ◌++◌, OnOk, IfOk, string_bytes, vec_items};
 ghost use Rattle.std.specs.Option.{option_map};
-ghost use Rattle.lines.specs.Outputs.{Prints, PrintsPlayed};
-ghost use Rattle.lines.specs.Rows.{account_text, lines_text, refusals_text};
+ghost use Rattle.report.specs.Outputs.{Prints, PrintsPlayed};
+ghost use Rattle.report.specs.Rows.{account_text, lines_text, refusals_text};
 
 use crate::rows::{LineRow, RefusalRow};
 use crate::schedule::schedule;

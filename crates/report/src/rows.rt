@@ -1,6 +1,6 @@
 // The text of a line, and of a refusal.
 ghost use Rattle.std.specs.Prelude.{Some};
-ghost use Rattle.lines.specs.Rows.{line_text, refusal_text};
+ghost use Rattle.report.specs.Rows.{line_text, refusal_text};
 
 use account::Refusal;
 use history::Line;

@@ -1,6 +1,6 @@
 use Rattle.std.proofs.Common.{◌≡◌, ◌+◌, ◌++◌, drop, string_bytes}
-use Rattle.lines.specs.Rows.{lines_text}
-use Rattle.lines.proofs.printing.write_lines.Given as goal
+use Rattle.report.specs.Rows.{lines_text}
+use Rattle.report.proofs.printing.write_lines.Given as goal
 
 abbrev pub invariant-loop-index : goal.invariant-loop-index
 invariant-loop-index g l =

@@ -5,9 +5,9 @@ use Rattle.account.specs.Playing.{Played}
 use Rattle.history.specs.Calls.{State}
 use Rattle.history.specs.Prices.{Tariff}
 use Rattle.history.specs.Runs.{new_state}
-use Rattle.lines.specs.Outputs.{PrintsPlayed}
-use Rattle.lines.specs.Tariffs.{fixed_tariff}
-use Rattle.lines.specs.Rows.{account_text, refusals_text}
+use Rattle.report.specs.Outputs.{PrintsPlayed}
+use Rattle.report.specs.Tariffs.{fixed_tariff}
+use Rattle.report.specs.Rows.{account_text, refusals_text}
 
 -- a text that was empty, and to which the refusals were written and then the account
 pub played_is_printed : (s : Tariff) (bytes none some text : List ℕ) (a b : State) (refusals : List Refusal) → s ≡ fixed_tariff → a ≡ new_state → Played s bytes a b refusals → none ≡ [] → some ≡ none ++ refusals_text refusals → text ≡ some ++ account_text b.lines → PrintsPlayed bytes text

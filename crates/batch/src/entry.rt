@@ -1,0 +1,17 @@
+// What is printed of one journal.
+ghost use Rattle.std.specs.Prelude.{IfOk, string_bytes, vec_items};
+ghost use Rattle.std.specs.Option.{option_map};
+ghost use Rattle.batch.specs.Entries.{PrintsNamed};
+
+use std::alloc::Global;
+use std::fmt;
+
+// A row with the name of a journal's file, and what `lines` prints of the journal.
+pub fn output(heap: Global, name: &str, journal: Option<Vec<u8>>) -> Result<String, fmt::Error>
+    ensures { IfOk result (λ text. PrintsNamed name.now (option_map vec_items journal) (string_bytes text)) }
+{
+    let mut text = String::new(heap);
+    writeln!(text, "journal {name}")?;
+    write!(text, "{}", report::output(heap, journal)?)?;
+    Ok(text)
+}

@@ -1,0 +1,17 @@
+// Plays each journal of which the file is named as an argument, into a new account each, and prints what `lines` prints of it, under a row with the file's name.
+#![tactic(auto)]
+
+mod entry;
+
+use entry::output;
+use journal::load;
+use std::{env, fs};
+
+fn main(rt: HostRuntime) -> anyhow::Result<()> {
+    let heap = rt.alloc();
+    for name in env::args(&rt)?.skip(1) {
+        let journal = load(heap, fs::open(&rt, name.as_str())?)?;
+        rt.print(output(heap, &name, journal)?)?;
+    }
+    Ok(())
+}
