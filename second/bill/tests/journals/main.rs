@@ -1,0 +1,5 @@
+//! Whole journals, played.
+
+mod common;
+mod law;
+mod lines;
