@@ -3,6 +3,7 @@
 
 mod entry;
 
+use anyhow::Context;
 use entry::output;
 use journal::load;
 use std::{env, fs};
@@ -10,7 +11,8 @@ use std::{env, fs};
 fn main(rt: HostRuntime) -> anyhow::Result<()> {
     let heap = rt.alloc();
     for name in env::args(&rt)?.skip(1) {
-        let journal = load(heap, fs::open(&rt, name.as_str())?)?;
+        let file = fs::open(&rt, name.as_str()).context(name.as_str())?;
+        let journal = load(heap, file)?;
         rt.print(output(heap, &name, journal)?)?;
     }
     Ok(())

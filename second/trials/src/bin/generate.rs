@@ -1,0 +1,26 @@
+//! Writes a journal to standard output: `generate SEED NUMBER`.
+
+use std::env;
+use std::io::{self, Write};
+use std::process::ExitCode;
+use trials::arguments::{parse, Arguments};
+
+fn main() -> ExitCode {
+    match run() {
+        Ok(()) => ExitCode::SUCCESS,
+        Err(reason) => {
+            eprintln!("generate: {reason}");
+            eprintln!("usage: generate SEED NUMBER");
+            ExitCode::from(2)
+        }
+    }
+}
+
+fn run() -> Result<(), String> {
+    let arguments = Arguments::read(env::args().skip(1), 2, &[])?;
+    let seed = parse(&arguments.plain[0])?;
+    let number = parse(&arguments.plain[1])?;
+    io::stdout()
+        .write_all(&trials::journal(seed, number))
+        .map_err(|error| error.to_string())
+}
