@@ -4,10 +4,11 @@ use Rattle.std.specs.Result.{IsErr, IsErrAnd}
 use Rattle.gas.specs.declared.day.DayRecord.{DayRecord}
 use Rattle.gas.specs.declared.items.Item.{Item}
 use Rattle.gas.specs.Facts.{MonthFacts}
+use Rattle.gas.specs.Inputs.{first_failing}
 use Rattle.gas.specs.Limits.{Answer}
 use Rattle.history.specs.declared.faults.AccountFault.{AccountFault}
 use Rattle.history.specs.declared.faults.AccountFault.TheVariants as fault
-use Rattle.history.specs.Calls.{Call, State, closing, correction, first_failing, opening, outcome, payment, posting, settling, tests}
+use Rattle.history.specs.Calls.{Call, State, closing, correction, opening, outcome, payment, posting, settling, tests}
 use Rattle.history.specs.Prices.{tariff_by}
 use Rattle.history.specs.Year.{Standing, not_opened, running, settled}
 use Rattle.book.specs.Books.{Contents, state_of}

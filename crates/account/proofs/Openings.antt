@@ -4,12 +4,12 @@ use Rattle.std.specs.Result.{IsErr, IsErrAnd}
 use Rattle.gas.specs.declared.day.DayRecord.{DayRecord}
 use Rattle.gas.specs.declared.items.Item.{Item}
 use Rattle.gas.specs.Facts.{MonthFacts}
-use Rattle.gas.specs.Inputs.{mark_number}
+use Rattle.gas.specs.Inputs.{first_failing, mark_number}
 use Rattle.gas.proofs.Made.{same_mark}
 use Rattle.gas.specs.Limits.{Answer}
 use Rattle.history.specs.declared.faults.AccountFault.{AccountFault}
 use Rattle.history.specs.declared.faults.AccountFault.TheVariants as fault
-use Rattle.history.specs.Calls.{Call, first_failing, learned, most_lines, opening, opening_input, tests}
+use Rattle.history.specs.Calls.{Call, learned, most_lines, opening, opening_input, tests}
 use Rattle.history.specs.Prices.{Tariff, tariff_by}
 use Rattle.history.specs.Year.{Opening, is_opened, running}
 use Rattle.book.specs.Books.{Contents, begun, state_of}

@@ -5,11 +5,11 @@ use Rattle.gas.specs.declared.day.DayRecord.{DayRecord}
 use Rattle.gas.specs.declared.faults.InputFault.TheVariants as input
 use Rattle.gas.specs.declared.items.Item.{Item}
 use Rattle.gas.specs.Facts.{MonthFacts}
-use Rattle.gas.specs.Inputs.{whole}
+use Rattle.gas.specs.Inputs.{first_failing, whole}
 use Rattle.gas.specs.Limits.{Answer}
 use Rattle.history.specs.declared.faults.AccountFault.{AccountFault}
 use Rattle.history.specs.declared.faults.AccountFault.TheVariants as fault
-use Rattle.history.specs.Calls.{first_failing, settlement_input, settling}
+use Rattle.history.specs.Calls.{settlement_input, settling}
 use Rattle.history.specs.Year.{Opening, Standing, is_opened, is_settled, not_opened, running, settled}
 use Rattle.book.specs.declared.terms.SettlementTerms.{SettlementTerms}
 use Rattle.book.specs.Books.{Contents, state_of}

@@ -2,8 +2,8 @@
 ghost use Rattle.std.specs.Prelude.{◌≡◌, ℕ, ◌&&◌, [], ◌∷◌, IfOk, nat_le};
 ghost use Rattle.std.specs.Result.{result_err};
 ghost use Rattle.gas.specs.declared.faults.InputFault.TheVariants as faults;
-ghost use Rattle.gas.specs.Inputs.{last_month, mark_number, read, unless};
-ghost use Rattle.history.specs.Calls.{first_failing, opening_input, settlement_input};
+ghost use Rattle.gas.specs.Inputs.{first_failing, last_month, mark_number, read, unless};
+ghost use Rattle.history.specs.Calls.{opening_input, settlement_input};
 ghost use Rattle.book.specs.Terms.{opening_numbers, settlement_numbers};
 
 use book::{OpeningTerms, SettlementTerms};

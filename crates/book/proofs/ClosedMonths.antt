@@ -5,10 +5,10 @@ use Rattle.std.proofs.lemmas.Bool.Decides.{nat_tests}
 use Rattle.gas.specs.declared.faults.InputFault.{InputFault}
 use Rattle.gas.specs.declared.faults.InputFault.TheVariants as input
 use Rattle.gas.specs.declared.month.ClosingNumbers.{ClosingNumbers}
-use Rattle.gas.specs.Inputs.{checked_closing, checked_month, closes}
+use Rattle.gas.specs.Inputs.{checked_closing, checked_month, closes, first_failing}
 use Rattle.history.specs.declared.faults.AccountFault.TheVariants as fault
 use Rattle.history.specs.declared.lines.Line.{Line}
-use Rattle.history.specs.Calls.{by_account, closing, first_failing, outcome, tests, with_lines}
+use Rattle.history.specs.Calls.{by_account, closing, outcome, tests, with_lines}
 use Rattle.history.specs.Days.{is_complete}
 use Rattle.history.specs.Due.{due_in}
 use Rattle.history.specs.Prices.{Tariff}

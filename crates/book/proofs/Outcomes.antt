@@ -7,9 +7,9 @@ use Rattle.gas.specs.declared.day.DayRecord.{DayRecord}
 use Rattle.history.specs.declared.faults.AccountFault.{AccountFault}
 use Rattle.history.specs.declared.faults.AccountFault.TheVariants as fault
 use Rattle.history.specs.declared.lines.Line.{Line}
-use Rattle.gas.specs.Inputs.{read, unless}
+use Rattle.gas.specs.Inputs.{first_failing, read, unless}
 use Rattle.gas.specs.Made.{day_of}
-use Rattle.history.specs.Calls.{Call, State, Tests, by_account, correction, day_input, day_tests, first_failing, learned, most_lines, outcome, posting, tests, with_lines, written}
+use Rattle.history.specs.Calls.{Call, State, Tests, by_account, correction, day_input, day_tests, learned, most_lines, outcome, posting, tests, with_lines, written}
 use Rattle.history.specs.Days.{Places, place_of}
 use Rattle.history.specs.Due.{due_in}
 use Rattle.history.specs.Prices.{Tariff}

@@ -1,12 +1,12 @@
 -- What a payment leaves is the outcome of the call.
 use Rattle.std.proofs.Common.{◌≡◌, ℕ, ◌+◌, ◌≤◌, true, false, leb, ◌&&◌, List, length, pos, neg_ℤ, None, Ok, Err, refl, sym, ◌∙◌, arith}
 use Rattle.std.proofs.lemmas.Bool.Decides.{nat_tests}
-use Rattle.gas.specs.Inputs.{unless, whole}
+use Rattle.gas.specs.Inputs.{first_failing, unless, whole}
 use Rattle.history.specs.declared.faults.AccountFault.{AccountFault}
 use Rattle.history.specs.declared.faults.AccountFault.TheVariants as fault
 use Rattle.history.specs.declared.lines.Heading.TheVariants as heading
 use Rattle.history.specs.declared.lines.Line.{Line}
-use Rattle.history.specs.Calls.{first_failing, most_lines, most_paid, outcome, payment, tests}
+use Rattle.history.specs.Calls.{most_lines, most_paid, outcome, payment, tests}
 use Rattle.history.specs.Headings.{line_of}
 use Rattle.history.specs.Prices.{Tariff}
 use Rattle.history.specs.Year.{Standing, is_opened}

@@ -1,10 +1,10 @@
 -- What a settlement leaves is the outcome of the call.
 use Rattle.std.proofs.Common.{◌≡◌, ◌≤◌, ◌<◌, true, false, ltb, leb, List, length, None, Err, refl, sym, arith}
 use Rattle.std.proofs.lemmas.Bool.Decides.{nat_tests}
-use Rattle.gas.specs.Inputs.{whole}
+use Rattle.gas.specs.Inputs.{first_failing, whole}
 use Rattle.history.specs.declared.faults.AccountFault.TheVariants as fault
 use Rattle.history.specs.declared.lines.Line.{Line}
-use Rattle.history.specs.Calls.{by_account, first_failing, outcome, settling, tests, with_lines}
+use Rattle.history.specs.Calls.{by_account, outcome, settling, tests, with_lines}
 use Rattle.history.specs.Due.{due_in}
 use Rattle.history.specs.Prices.{Tariff}
 use Rattle.history.specs.Year.{Opening, Settlement, running, settled}

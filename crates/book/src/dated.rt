@@ -2,8 +2,9 @@
 ghost use Rattle.std.specs.Prelude.{◌≡◌, ◌&&◌, IfOk, Ok, nat_le};
 ghost use Rattle.std.specs.Result.{result_err};
 ghost use Rattle.gas.specs.Calendar.{month_length};
+ghost use Rattle.gas.specs.Inputs.{first_failing};
 ghost use Rattle.gas.specs.Made.{day_of};
-ghost use Rattle.history.specs.Calls.{day_input, first_failing};
+ghost use Rattle.history.specs.Calls.{day_input};
 ghost use Rattle.history.specs.Days.{place_of};
 
 use crate::places::Place;

@@ -1,10 +1,11 @@
 -- What it means that totals or a day are lawful.
-use Rattle.std.proofs.Common.{◌≡◌, ℕ, ◌≤◌, Bool, true, false, cond, leb, Ok, Err, Result, refl, arith}
+use Rattle.std.proofs.Common.{◌≡◌, ℕ, ◌≤◌, Bool, true, false, leb, List, [], ◌∷◌, Ok, Err, Result, refl, arith}
 use Rattle.std.proofs.lemmas.Bool.{and_parts, leb-true}
 use Rattle.gas.specs.declared.day.DayNumbers.{DayNumbers}
+use Rattle.gas.specs.declared.faults.InputFault.{InputFault}
 use Rattle.gas.specs.declared.faults.InputFault.TheVariants.{DayKind, Mark, Quantity}
 use Rattle.gas.specs.declared.month.TotalsNumbers.{TotalsNumbers}
-use Rattle.gas.specs.Inputs.{checked_day, checked_totals, lawful_day, unless}
+use Rattle.gas.specs.Inputs.{checked_day, checked_totals, first_failing, lawful_day, unless, unless_refused}
 
 -- what was taken has passed its test
 pub taken : {A F : Type 0} (b : Bool) (e : F) (a : A) → unless b e a ≡ Ok a → b ≡ true
@@ -32,19 +33,28 @@ lawful t h =
       held = leb-true _ _ four.1;
     }
 
--- what passed a test was not refused there
-passed : {A F : Type 0} (b : Bool) (r : Result A F) (e : F) (a : A) → Ok a ≡ cond b r (Err e) → Ok a ≡ r
-passed true r e a h = h
-passed false r e a h = absurd (let z : ◌≡◌ {A = ℕ} 0 1 = cc in omega arith)
+-- what passed its tests passed the first of them
+passed : {A F : Type 0} (b : Bool) (e : F) (ts : List (Bool × F)) (r : Result A F) (a : A) → Ok a ≡ unless_refused (first_failing ((b, e) ∷ ts)) r → Ok a ≡ unless_refused (first_failing ts) r
+passed true e ts r a h = h
+passed false e ts r a h = absurd (let z : ◌≡◌ {A = ℕ} 0 1 = cc in omega arith)
+
+-- one test alone
+alone : {A F : Type 0} (b : Bool) (e : F) (n a : A) → Ok a ≡ unless_refused (first_failing ((b, e) ∷ [])) (Ok n) → Ok a ≡ unless b e n
+alone true e n a h = h
+alone false e n a h = h
 
 -- a day that was taken passed the test of its quantities
 pub quantities_taken : (n m : DayNumbers) → Ok m ≡ checked_day n → Ok m ≡ unless (lawful_day n) Quantity n
 quantities_taken n m h =
-    let one : Ok m ≡ cond (leb n.curtailed 1) (unless (lawful_day n) Quantity n) (Err Mark) = passed (leb n.kind 3) _ DayKind m h in
-    passed (leb n.curtailed 1) _ Mark m one
+    let quantities : List (Bool × InputFault) = (lawful_day n, Quantity) ∷ [] in
+    let marked = passed (leb n.kind 3) DayKind ((leb n.curtailed 1, Mark) ∷ quantities) (Ok n) m h in
+    alone (lawful_day n) Quantity n m (passed (leb n.curtailed 1) Mark quantities (Ok n) m marked)
+
+-- what a test took is what it was given
+same : {A F : Type 0} (b : Bool) (e : F) (n a : A) → Ok a ≡ unless b e n → a ≡ n
+same true e n a h = cc
+same false e n a h = absurd (let z : ◌≡◌ {A = ℕ} 0 1 = cc in omega arith)
 
 -- a day that was made has the numbers of which it was made
 pub day_made_of : (n m : DayNumbers) → Ok m ≡ checked_day n → m ≡ n
-day_made_of n m h =
-    let taken : Ok m ≡ Ok n = passed (lawful_day n) (Ok n) Quantity m (quantities_taken n m h) in
-    cc
+day_made_of n m h = same (lawful_day n) Quantity n m (quantities_taken n m h)

@@ -1,5 +1,5 @@
 -- When a number from outside is taken, and which refusal it gets if not.
-use Rattle.std.specs.Prelude.{ℕ, Bool, if◌then◌else◌, ◌&&◌, List, [], ◌∷◌, Ok, Err, Result, nat_le}
+use Rattle.std.specs.Prelude.{ℕ, Bool, if◌then◌else◌, ◌&&◌, List, [], ◌∷◌, Some, None, Ok, Err, Option, Result, nat_le}
 use Rattle.gas.specs.declared.day.DayNumbers.{DayNumbers}
 use Rattle.gas.specs.declared.faults.InputFault.{InputFault}
 use Rattle.gas.specs.declared.faults.InputFault.TheVariants.{Month, DayKind, Mark, Quantity, PerMille}
@@ -14,6 +14,16 @@ read f (Err e) = Err e
 -- a number that passes its test, or the refusal
 abbrev pub unless : {A F : Type 0} → Bool → F → A → Result A F
 unless ok e a = if ok then Ok a else Err e
+
+-- tests in their order, each with the fault where it fails: the first that fails decides
+abbrev pub first_failing : {F : Type 0} → List (Bool × F) → Option F
+first_failing [] = None
+first_failing (t ∷ ts) = if t.0 then first_failing ts else Some t.1
+
+-- an answer, or the fault for which none is given
+abbrev pub unless_refused : {A F : Type 0} → Option F → Result A F → Result A F
+unless_refused None r = r
+unless_refused (Some f) r = Err f
 
 -- the most millicents per therm, and the most therms of a day and of a month, which is 31 days' worth
 abbrev pub most_per_therm : ℕ
@@ -67,17 +77,13 @@ lawful_day d =
     nat_le d.nomination most_a_day && (nat_le d.receipts most_a_day && (nat_le d.reading most_a_day && (nat_le d.after_notice d.reading &&
     (nat_le d.supply_cost most_per_therm && nat_le d.variance_rate most_per_therm))))
 
--- tests in their order, each with the refusal where it fails: the first that fails decides
-abbrev pub passing : {A : Type 0} → List (Bool × InputFault) → A → Result A InputFault
-passing [] a = Ok a
-passing (t ∷ ts) a = if t.0 then passing ts a else Err t.1
-
 -- a day's kind comes first, then its mark, then its quantities
 abbrev pub tests_of_day : DayNumbers → List (Bool × InputFault)
 tests_of_day d = (nat_le d.kind 3, DayKind) ∷ (nat_le d.curtailed 1, Mark) ∷ (lawful_day d, Quantity) ∷ []
 
+-- a day that passes its tests, or the first refusal
 abbrev pub checked_day : DayNumbers → Result DayNumbers InputFault
-checked_day d = passing (tests_of_day d) d
+checked_day d = unless_refused (first_failing (tests_of_day d)) (Ok d)
 
 -- the three numbers that close a month are rates
 abbrev pub closes : ClosingNumbers → Bool

@@ -7,7 +7,7 @@ use Rattle.gas.specs.declared.faults.InputFault.TheVariants as input
 use Rattle.gas.specs.declared.items.ScheduleFault.{ScheduleFault}
 use Rattle.gas.specs.declared.month.ClosingNumbers.{ClosingNumbers}
 use Rattle.gas.specs.Calendar.{month_length}
-use Rattle.gas.specs.Inputs.{closes, last_month, tests_of_day, whole}
+use Rattle.gas.specs.Inputs.{closes, first_failing, last_month, tests_of_day, unless_refused, whole}
 use Rattle.history.specs.declared.faults.AccountFault.{AccountFault}
 use Rattle.history.specs.declared.faults.AccountFault.TheVariants as fault
 use Rattle.history.specs.declared.lines.Heading.TheVariants as heading
@@ -38,13 +38,9 @@ pub record State : Type 0 where
   pub year : Year
   pub lines : List Line
 
--- tests in their order, each with the refusal where it fails; the first that fails decides
+-- tests in their order, each with the refusal where it fails
 abbrev pub Tests : Type 0
 Tests = List (Bool × AccountFault)
-
-abbrev pub first_failing : Tests → Option AccountFault
-first_failing [] = None
-first_failing (t ∷ ts) = if t.0 then first_failing ts else Some t.1
 
 abbrev pub lawful : Bool → InputFault → Bool × AccountFault
 lawful ok f = (ok, fault.Input f)
@@ -134,10 +130,6 @@ most_lines = 1024
 abbrev pub with_lines : Year → List Line → Result (List Line) AccountFault → Result State AccountFault
 with_lines y lines (Ok more) = if nat_le (length lines + length more) most_lines then Ok (record { year = y; lines = lines ++ more }) else Err fault.NoRoom
 with_lines y lines (Err e) = Err e
-
-abbrev pub unless_refused : Option AccountFault → Result State AccountFault → Result State AccountFault
-unless_refused None r = r
-unless_refused (Some f) r = Err f
 
 -- the one outcome of a call: the account after it, or its refusal
 unfoldable pub outcome : Tariff → Call → State → Result State AccountFault
