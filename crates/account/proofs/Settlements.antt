@@ -5,7 +5,7 @@ use Rattle.gas.specs.declared.day.DayRecord.{DayRecord}
 use Rattle.gas.specs.declared.faults.InputFault.TheVariants as input
 use Rattle.gas.specs.declared.items.Item.{Item}
 use Rattle.gas.specs.Facts.{MonthFacts}
-use Rattle.gas.specs.Inputs.{first_failing, whole}
+use Rattle.gas.specs.Inputs.{first_failing, most_per_mille}
 use Rattle.gas.specs.Limits.{Answer}
 use Rattle.history.specs.declared.faults.AccountFault.{AccountFault}
 use Rattle.history.specs.declared.faults.AccountFault.TheVariants as fault
@@ -45,12 +45,12 @@ module _ {S : Type 0} (unauthorized : S → DayRecord → ℕ) (price : S → Mo
   pub settlement_refused : (r : Result (Unit {0}) AccountFault) (f : AccountFault) → IsErr r → IsErrAnd r (λ e. e ≡ f) → Some f ≡ first_failing (settlement_input (record { final_increase = final; interest = interest }) ∷ []) →
       Called unauthorized price a (settling (record { final_increase = final; interest = interest })) r a
   settlement_refused r f is one e =
-      let test = failed (leb final whole && leb interest whole) f (fault.Input input.PerMille) e in
+      let test = failed (leb final most_per_mille && leb interest most_per_mille) f (fault.Input input.PerMille) e in
       handed_on unauthorized price a _ r f is one (rw (standing_is, (opened_is st by opened).1, test.0, test.1) refl)
 
   pub settled_already : (o : Opening) (t : Option SettlementTerms) → None ≡ first_failing (settlement_input (record { final_increase = final; interest = interest }) ∷ []) → by ≡ standing_by o t → true ≡ is_some t →
       Called unauthorized price a (settling (record { final_increase = final; interest = interest })) (Err fault.SettledAlready) a
   settled_already o t e terms is =
-      let test = held (leb final whole && leb interest whole) (fault.Input input.PerMille) e in
+      let test = held (leb final most_per_mille && leb interest most_per_mille) (fault.Input input.PerMille) e in
       let opened_by : is_opened (standing_by o t) ≡ true = rw (sym terms) (opened_is st by opened).1 in
       fails unauthorized price a _ fault.SettledAlready (rw (standing_is, terms, opened_by, test, settled_is o t is) refl)

@@ -5,7 +5,7 @@ use Rattle.std.proofs.lemmas.Bool.Decides.{nat_tests}
 use Rattle.gas.specs.declared.faults.InputFault.{InputFault}
 use Rattle.gas.specs.declared.faults.InputFault.TheVariants as input
 use Rattle.gas.specs.declared.month.ClosingNumbers.{ClosingNumbers}
-use Rattle.gas.specs.Inputs.{checked_closing, checked_month, closes, first_failing}
+use Rattle.gas.specs.Inputs.{checked_closing, checked_month, first_failing, is_lawful_closing}
 use Rattle.history.specs.declared.faults.AccountFault.TheVariants as fault
 use Rattle.history.specs.declared.lines.Line.{Line}
 use Rattle.history.specs.Calls.{by_account, closing, outcome, tests, with_lines}
@@ -28,7 +28,7 @@ module _ (y : MeterYear) (lines : List Line) (b : Contents) (same : record { yea
   module _ (m : ℕ) (of_month : Ok m ≡ checked_month month) where
     pub closing_refused : (f : InputFault) → Err f ≡ checked_closing n → Err (fault.Input f) ≡ outcome s (closing month n) (state_of t b)
     closing_refused f e =
-        let test = untaken (closes n) f input.Quantity n e in
+        let test = untaken (is_lawful_closing n) f input.Quantity n e in
         let first = taken (leb month 11) input.Month m month of_month in
         refused s (closing month n) (state_of t b) (fault.Input f) (rw (opened, first.0, test.0, test.1) refl)
 
@@ -36,7 +36,7 @@ module _ (y : MeterYear) (lines : List Line) (b : Contents) (same : record { yea
       lawful_input : first_failing (tests (closing month n) (year_by t b.year)) ≡ first_failing ((eqb m (length b.year.closings), fault.NotEarliest) ∷ (is_complete b.year.leap b.year.days m, fault.LacksDay) ∷ [])
       lawful_input =
           let first = taken (leb month 11) input.Month m month of_month in
-          let second = taken (closes n) input.Quantity c n of_rates in
+          let second = taken (is_lawful_closing n) input.Quantity c n of_rates in
           rw (opened, first.0, second.0, first.1) refl
 
       pub not_earliest : (m ≡ length y.closings → ⊥) → Err fault.NotEarliest ≡ outcome s (closing month n) (state_of t b)
@@ -51,7 +51,7 @@ module _ (y : MeterYear) (lines : List Line) (b : Contents) (same : record { yea
           with_lines (year_by t put.year) put.lines (by_account (due_in s (year_by t put.year) put.lines)) ≡ outcome s (closing month n) (state_of t b)
       closed put next complete is_put =
           let passes : first_failing (tests (closing month n) (year_by t b.year)) ≡ None = lawful_input ∙ rw (sym same, complete, eq-eqb _ _ next) refl in
-          rw is_put (sym (passed s (closing month n) (state_of t b) passes ∙ rw (sym (taken (closes n) input.Quantity c n of_rates).1) refl))
+          rw is_put (sym (passed s (closing month n) (state_of t b) passes ∙ rw (sym (taken (is_lawful_closing n) input.Quantity c n of_rates).1) refl))
 
 -- a book with its last month open again is the one before
 pub reopened : (b put brought after : Contents) (c : ClosingNumbers) → put ≡ with_closings b (b.year.closings ++ c ∷ []) → brought ≡ put → after ≡ with_closings brought (take (length brought.year.closings - 1) brought.year.closings) → after ≡ b

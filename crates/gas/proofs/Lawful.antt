@@ -5,7 +5,7 @@ use Rattle.gas.specs.declared.day.DayNumbers.{DayNumbers}
 use Rattle.gas.specs.declared.faults.InputFault.{InputFault}
 use Rattle.gas.specs.declared.faults.InputFault.TheVariants.{DayKind, Mark, Quantity}
 use Rattle.gas.specs.declared.month.TotalsNumbers.{TotalsNumbers}
-use Rattle.gas.specs.Inputs.{checked_day, checked_totals, first_failing, lawful_day, unless, unless_refused}
+use Rattle.gas.specs.Inputs.{checked_day, checked_totals, first_failing, has_lawful_quantities, unless, unless_refused}
 
 -- what was taken has passed its test
 pub taken : {A F : Type 0} (b : Bool) (e : F) (a : A) → unless b e a ≡ Ok a → b ≡ true
@@ -44,11 +44,11 @@ alone true e n a h = h
 alone false e n a h = h
 
 -- a day that was taken passed the test of its quantities
-pub quantities_taken : (n m : DayNumbers) → Ok m ≡ checked_day n → Ok m ≡ unless (lawful_day n) Quantity n
+pub quantities_taken : (n m : DayNumbers) → Ok m ≡ checked_day n → Ok m ≡ unless (has_lawful_quantities n) Quantity n
 quantities_taken n m h =
-    let quantities : List (Bool × InputFault) = (lawful_day n, Quantity) ∷ [] in
+    let quantities : List (Bool × InputFault) = (has_lawful_quantities n, Quantity) ∷ [] in
     let marked = passed (leb n.kind 3) DayKind ((leb n.curtailed 1, Mark) ∷ quantities) (Ok n) m h in
-    alone (lawful_day n) Quantity n m (passed (leb n.curtailed 1) Mark quantities (Ok n) m marked)
+    alone (has_lawful_quantities n) Quantity n m (passed (leb n.curtailed 1) Mark quantities (Ok n) m marked)
 
 -- what a test took is what it was given
 same : {A F : Type 0} (b : Bool) (e : F) (n a : A) → Ok a ≡ unless b e n → a ≡ n
@@ -57,4 +57,4 @@ same false e n a h = absurd (let z : ◌≡◌ {A = ℕ} 0 1 = cc in omega arith
 
 -- a day that was made has the numbers of which it was made
 pub day_made_of : (n m : DayNumbers) → Ok m ≡ checked_day n → m ≡ n
-day_made_of n m h = same (lawful_day n) Quantity n m (quantities_taken n m h)
+day_made_of n m h = same (has_lawful_quantities n) Quantity n m (quantities_taken n m h)

@@ -1,7 +1,4 @@
--- The words of a day.
--- Words:
--- `nominated`, `received`, `metered` and `after_notice_of`, a lawful day's quantities in therms
--- `supply_cost_of` and `variance_rate_of`, in millicents per therm
+-- The words of a lawful day.
 use Rattle.std.specs.Prelude.{ℕ}
 use Rattle.gas.specs.declared.day.DayKind.{DayKind}
 use Rattle.gas.specs.declared.day.DayKind.TheVariants.{Normal, Sul, Sol, Critical}
@@ -9,25 +6,31 @@ use Rattle.gas.specs.declared.day.DayNumbers.{DayNumbers}
 use Rattle.gas.specs.declared.day.DayRecord.{DayRecord}
 use Rattle.gas.specs.Inputs.{mark_number}
 
+-- the confirmed nomination, in therms
 abbrev pub nominated : DayRecord → ℕ
 nominated d = d.nomination.count
 
+-- the receipts at the town border, in therms
 abbrev pub received : DayRecord → ℕ
 received d = d.receipts.count
 
+-- what the meter read, in therms
 abbrev pub metered : DayRecord → ℕ
 metered d = d.reading.count
 
+-- the part of it that was metered after a curtailment notice ran out
 abbrev pub after_notice_of : DayRecord → ℕ
 after_notice_of d = d.after_notice.count
 
+-- the day's highest incremental supply cost, in millicents per therm
 abbrev pub supply_cost_of : DayRecord → ℕ
 supply_cost_of d = d.supply_cost.price
 
+-- its delivery variance rate, in millicents per therm
 abbrev pub variance_rate_of : DayRecord → ℕ
 variance_rate_of d = d.variance_rate.price
 
--- the number of a day kind
+-- a day kind is known by 0 to 3
 abbrev pub kind_number : DayKind → ℕ
 kind_number Normal = 0
 kind_number Sul = 1

@@ -6,6 +6,7 @@ use Rattle.gas.specs.declared.items.ScheduleFault.{ScheduleFault}
 use Rattle.gas.specs.declared.items.ScheduleFault.TheVariants.{PastLimit}
 use Rattle.gas.specs.Items.{item_number, layer_number}
 
+-- 3: a month above 11. 4: a day that the month does not have. 5: a day kind above 3. 6: a mark above 1. 7: a quantity or a rate past its limit. 8: a per mille above 1,000. 25: too few or too many days for a month.
 abbrev pub input_number : InputFault → ℕ
 input_number Month = 3
 input_number Day = 4
@@ -19,5 +20,6 @@ input_number DayCount = 25
 abbrev pub schedule_values : ScheduleFault → ℕ × ℕ × ℕ × ℕ
 schedule_values (PastLimit month item layer) = (28, month, item_number item, layer_number layer)
 
+-- the first of these
 abbrev pub schedule_number : ScheduleFault → ℕ
 schedule_number f = (schedule_values f).0

@@ -1,5 +1,6 @@
 -- The lawful day that numbers make.
 use Rattle.std.specs.Prelude.{◌≡◌, ℕ, Bool, true, false, [], ◌∷◌, Ok, Err, Result, ◌==◌, nat_le, slice_index_or, refl}
+use Rattle.std.specs.Result.{result_and}
 use Rattle.std.proofs.lemmas.Bool.{and_parts, leb-true}
 use Rattle.gas.specs.declared.day.DayKind.{DayKind}
 use Rattle.gas.specs.declared.day.DayKind.TheVariants as kind
@@ -7,12 +8,14 @@ use Rattle.gas.specs.declared.day.DayNumbers.{DayNumbers}
 use Rattle.gas.specs.declared.day.DayRecord.{DayRecord}
 use Rattle.gas.specs.declared.faults.InputFault.{InputFault}
 use Rattle.gas.specs.declared.faults.InputFault.TheVariants as input
-use Rattle.gas.specs.Inputs.{checked_day, lawful_day, most_a_day, most_per_therm}
+use Rattle.gas.specs.Inputs.{checked_day, has_lawful_quantities, most_a_day, most_per_therm}
 
+-- the kind of a number from 0 to 3
 abbrev pub kind_of : ℕ → DayKind
 kind_of k = slice_index_or (kind.Normal ∷ kind.Sul ∷ kind.Sol ∷ kind.Critical ∷ []) k kind.Normal
 
-abbrev pub made_day : (n : DayNumbers) → lawful_day n ≡ true → DayRecord
+-- the day of numbers whose quantities are lawful
+abbrev pub made_day : (n : DayNumbers) → has_lawful_quantities n ≡ true → DayRecord
 made_day n ok =
     let one = and_parts (nat_le n.nomination most_a_day) _ ok in
     let two = and_parts (nat_le n.receipts most_a_day) _ one.1 in
@@ -34,15 +37,11 @@ made_day n ok =
       part = leb-true _ _ four.0;
     }
 
-abbrev pub day_tested : (n : DayNumbers) (ok : Bool) → lawful_day n ≡ ok → Result DayRecord InputFault
+-- that day, or refusal 7, by whether they are
+abbrev pub day_tested : (n : DayNumbers) (ok : Bool) → has_lawful_quantities n ≡ ok → Result DayRecord InputFault
 day_tested n true e = Ok (made_day n e)
 day_tested n false e = Err input.Quantity
 
--- the day of numbers that were taken, or their refusal
-abbrev pub made_of_taken : Result DayNumbers InputFault → Result DayRecord InputFault → Result DayRecord InputFault
-made_of_taken (Ok n) made = made
-made_of_taken (Err f) made = Err f
-
 -- the day that numbers make, or their first refusal
 abbrev pub day_of : DayNumbers → Result DayRecord InputFault
-day_of n = made_of_taken (checked_day n) (day_tested n (lawful_day n) refl)
+day_of n = result_and (checked_day n) (day_tested n (has_lawful_quantities n) refl)

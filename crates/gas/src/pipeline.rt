@@ -3,6 +3,7 @@ ghost use Rattle.std.specs.Prelude.{◌≡◌, ℕ, ◌≤◌, ℤ, pos, Ok, uns
 ghost use Rattle.gas.specs.declared.day.DayRecord.{DayRecord};
 ghost use Rattle.gas.specs.declared.month.TotalsNumbers.{TotalsNumbers};
 ghost use Rattle.gas.specs.Inputs.{checked_totals};
+ghost use Rattle.gas.specs.Limits.{most_day_charge, most_month_amount};
 ghost use Rattle.gas.specs.Month.{totals_numbers};
 
 use crate::calendar::Month;
@@ -24,8 +25,8 @@ pub trait Pipeline {
         ensures { result.amount ≡ monthly self.now (totals_numbers totals.now) };
 
     // a day costs at most 4 × 10^11
-    ghost day_within: { (p : Self) (month : ℕ) (day : DayRecord) → month ≤ 11 → daily p month day ≤ 400000000000 };
+    ghost day_within: { (p : Self) (month : ℕ) (day : DayRecord) → month ≤ 11 → daily p month day ≤ most_day_charge };
 
     // a lawful month lies within 4 × 10^13 of zero
-    ghost month_within: { (p : Self) (totals : TotalsNumbers) → checked_totals totals ≡ Ok totals → unsigned_abs (monthly p totals) ≤ 40000000000000 };
+    ghost month_within: { (p : Self) (totals : TotalsNumbers) → checked_totals totals ≡ Ok totals → unsigned_abs (monthly p totals) ≤ most_month_amount };
 }

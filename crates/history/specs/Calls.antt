@@ -7,7 +7,7 @@ use Rattle.gas.specs.declared.faults.InputFault.TheVariants as input
 use Rattle.gas.specs.declared.items.ScheduleFault.{ScheduleFault}
 use Rattle.gas.specs.declared.month.ClosingNumbers.{ClosingNumbers}
 use Rattle.gas.specs.Calendar.{month_length}
-use Rattle.gas.specs.Inputs.{closes, first_failing, last_month, tests_of_day, unless_refused, whole}
+use Rattle.gas.specs.Inputs.{first_failing, is_lawful_closing, last_month, most_per_mille, tests_of_day, unless_refused}
 use Rattle.history.specs.declared.faults.AccountFault.{AccountFault}
 use Rattle.history.specs.declared.faults.AccountFault.TheVariants as fault
 use Rattle.history.specs.declared.lines.Heading.TheVariants as heading
@@ -52,11 +52,11 @@ opened y = (is_opened y.standing, fault.NotOpened)
 abbrev pub opening_input : ℕ → Opening → Tests
 opening_input leap o =
     lawful (nat_le o.first last_month && (nat_le o.last last_month && nat_le o.first o.last)) input.Month ∷ lawful (nat_le leap 1) input.Mark ∷
-    lawful (nat_le o.increase whole) input.PerMille ∷ []
+    lawful (nat_le o.increase most_per_mille) input.PerMille ∷ []
 
 -- the final increase and the interest
 abbrev pub settlement_input : Settlement → Bool × AccountFault
-settlement_input t = lawful (nat_le t.final_increase whole && nat_le t.interest whole) input.PerMille
+settlement_input t = lawful (nat_le t.final_increase most_per_mille && nat_le t.interest most_per_mille) input.PerMille
 
 -- a month, a day of it, and what the day was
 abbrev pub day_input : Bool → ℕ → ℕ → DayNumbers → Tests
@@ -81,7 +81,7 @@ tests (opening leap o) y = (not (is_opened y.standing), fault.OpenedAlready) ∷
 tests (posting month day n) y = day_tests y month day n (not (is_posted y month day), fault.PostedAlready)
 tests (correction month day n) y = day_tests y month day n (is_posted y month day, fault.NotPosted)
 tests (closing month numbers) y =
-    opened y ∷ lawful (nat_le month last_month) input.Month ∷ lawful (closes numbers) input.Quantity ∷
+    opened y ∷ lawful (nat_le month last_month) input.Month ∷ lawful (is_lawful_closing numbers) input.Quantity ∷
     ((month == length y.closings), fault.NotEarliest) ∷ (is_complete y.leap y.days month, fault.LacksDay) ∷ []
 tests (payment amount) y = opened y ∷ (nat_le 1 amount && nat_le amount most_paid, fault.Payment) ∷ []
 tests (settling t) y =
