@@ -1,5 +1,5 @@
 pub mod Faults
+pub mod Ridden
 pub mod Riders
 pub mod Weather
 pub mod Worked
-pub mod Ridden

@@ -1,6 +1,7 @@
 // The weather rates of every month, of which the definition is proved to say what was expected.
 ghost use Rattle.std.specs.Prelude.{◌≡◌, ◌*◌, length};
-ghost use Rattle.riders.specs.Worked.{WeatherAsExpected, months, years};
+ghost use Rattle.riders.specs.Weather.{months, years};
+ghost use Rattle.riders.specs.Worked.{WeatherAsExpected};
 
 // How many months of the gas years with weather rates have the rate that was expected.
 pub fn weather_months() -> u8
