@@ -1,5 +1,5 @@
 -- Records and their bytes: what was read has its bytes, and a reader that gives a record moves on.
-use Rattle.std.proofs.Common.{◌≡◌, ℕ, zero, suc, ◌-◌, ◌<◌, Bool, true, false, cond, leb, List, [], ◌∷◌, length, get_or, take, drop, Some, Ok, Err, refl, ap, ◌∙◌, arith, leb-true, rules}
+use Rattle.std.proofs.Common.{◌≡◌, ℕ, zero, suc, ◌-◌, ◌<◌, Bool, true, false, cond, leb, List, [], ◌∷◌, length, get_or, take, drop, sum, Some, Ok, Err, refl, ap, ◌∙◌, arith, leb-true, rules}
 use mathlib.Core.Path.{subst⁻¹}
 use Rattle.std.proofs.lemmas.Bool.{and_parts}
 use Rattle.std.proofs.lemmas.List.{take_rest}
@@ -7,7 +7,7 @@ use Rattle.journal.specs.declared.faults.ReadFault.TheVariants.{UnknownKind, Cut
 use Rattle.journal.specs.declared.kinds.Placed.{Placed}
 use Rattle.journal.specs.declared.kinds.Record.{Record}
 use Rattle.journal.specs.Format.{kind_byte, widths, fields_of, record_bytes, record_length}
-use Rattle.journal.specs.Numbers.{row_at, row_bytes, row_length}
+use Rattle.journal.specs.Numbers.{row_at, row_bytes}
 use Rattle.journal.specs.Reading.{is_kind, record_of_kind, read_record, behind, answer, after}
 use Rattle.journal.proofs.Widths.{Bytes, bytes_numbers}
 
@@ -15,7 +15,7 @@ use Rattle.journal.proofs.Widths.{Bytes, bytes_numbers}
 record IsMade (k : ℕ) (body : List ℕ) (r : Record) : Type 0 where
   kind : kind_byte r ≡ k
   fields : fields_of r ≡ row_at (widths k) body 0
-  size : length (row_bytes (widths (kind_byte r)) (fields_of r)) ≡ row_length (widths k)
+  size : length (row_bytes (widths (kind_byte r)) (fields_of r)) ≡ sum (widths k)
 
 -- so has the record that reading makes of a kind's body
 made : (k : ℕ) (body : List ℕ) → is_kind k ≡ true → IsMade k body (record_of_kind k (row_at (widths k) body 0))
@@ -39,9 +39,9 @@ read_by false false m r e = cc
 pub begins : (bs : List ℕ) (r : Record) → Bytes bs → 0 < length bs → Ok r ≡ read_record (get_or bs 0 0) (take (length bs - 1) (drop 1 bs)) → record_bytes r ≡ take (record_length r) bs
 begins [] r b h e = absurd (omega arith)
 begins (k ∷ rest) r b h e =
-    let p = read_by (is_kind k) (leb (row_length (widths k)) (length rest)) _ r (e ∙ ap (read_record k) (take_rest (k ∷ rest) 1)) in
+    let p = read_by (is_kind k) (leb (sum (widths k)) (length rest)) _ r (e ∙ ap (read_record k) (take_rest (k ∷ rest) 1)) in
     let m = subst⁻¹ (IsMade k rest) p.2 (made k rest p.0) in
-    let body = bytes_numbers (widths k) 0 rest (λ i. b (suc i)) (omega (arith, leb-true (row_length (widths k)) (length rest) p.1)) in
+    let body = bytes_numbers (widths k) 0 rest (λ i. b (suc i)) (omega (arith, leb-true (sum (widths k)) (length rest) p.1)) in
     rw (m.size, m.kind, m.fields) (ap (λ (l : List ℕ). k ∷ l) body)
 
 -- where a record is read, the reader moves on

@@ -1,6 +1,7 @@
 -- Rows of numbers in bytes: what is written by some widths is read by them, and the other way round.
-use Rattle.std.proofs.Common.{◌≡◌, ℕ, zero, suc, ◌+◌, ◌*◌, ◌/◌, ◌%◌, ◌<◌, ◌≤◌, List, [], ◌∷◌, ◌++◌, length, get_or, take, drop, sym, refl, ap, ◌∙◌, ap₂, append_assoc, add_assoc, add-suc, arith, drop-cons, drop-drop, get_or-append-add, take-add}
-use Rattle.journal.specs.Numbers.{number_at, row_at, low_bytes, row_bytes, row_length, limit, Fit}
+use Rattle.std.proofs.Common.{◌≡◌, ℕ, zero, suc, ◌+◌, ◌*◌, ◌/◌, ◌%◌, ◌^◌, ◌<◌, ◌≤◌, List, [], ◌∷◌, ◌++◌, length, get_or, take, drop, sum, sym, refl, ap, ◌∙◌, ap₂, append_assoc, add_assoc, add-suc, arith, drop-cons, drop-drop, get_or-append-add, take-add}
+use Rattle.journal.specs.Numbers.{number_at, row_at, low_bytes, row_bytes, Fit}
+use Rattle.std.proofs.lemmas.List.Sums.{sum_by-cons}
 
 -- every place of the list holds a byte
 abbrev pub Bytes : List ℕ → Type 0
@@ -22,7 +23,7 @@ numbers_behind (w ∷ ws) xs ys i =
     ap₂ ◌∷◌ (number_behind xs ys i w)
     (ap (row_at ws (xs ++ ys)) (add_assoc (length xs) i w) ∙ numbers_behind ws xs ys (i + w))
 
-number_low : (w n : ℕ) (rest : List ℕ) → n < limit w → number_at (low_bytes w n ++ rest) 0 w ≡ n
+number_low : (w n : ℕ) (rest : List ℕ) → n < 256 ^ w → number_at (low_bytes w n ++ rest) 0 w ≡ n
 number_low zero n rest h = omega arith
 number_low (suc w) n rest h =
     let more = number_behind ((n % 256) ∷ []) (low_bytes w (n / 256) ++ rest) 0 w in
@@ -51,9 +52,10 @@ low_number (suc w) i bs b h =
     ap (take (suc w)) (sym (drop-cons bs i 0 (omega arith)))
 
 -- writing by the widths what was read by them gives the bytes that were read
-pub bytes_numbers : (ws : List ℕ) (i : ℕ) (bs : List ℕ) → Bytes bs → i + row_length ws ≤ length bs → row_bytes ws (row_at ws bs i) ≡ take (row_length ws) (drop i bs)
+pub bytes_numbers : (ws : List ℕ) (i : ℕ) (bs : List ℕ) → Bytes bs → i + sum ws ≤ length bs → row_bytes ws (row_at ws bs i) ≡ take (sum ws) (drop i bs)
 bytes_numbers [] i bs b h = refl
 bytes_numbers (w ∷ ws) i bs b h =
-    ap₂ ◌++◌ (low_number w i bs b (omega arith)) (bytes_numbers ws (i + w) bs b (omega arith)) ∙
-    ap (λ (l : List ℕ). take w (drop i bs) ++ take (row_length ws) l) (sym (drop-drop w i bs)) ∙
-    sym (take-add w (row_length ws) (drop i bs))
+    let more : sum (w ∷ ws) ≡ w + sum ws = sum_by-cons (λ (n : ℕ). n) w ws in
+    ap₂ ◌++◌ (low_number w i bs b (omega (arith, more))) (bytes_numbers ws (i + w) bs b (omega (arith, more))) ∙
+    ap (λ (l : List ℕ). take w (drop i bs) ++ take (sum ws) l) (sym (drop-drop w i bs)) ∙
+    sym (take-add w (sum ws) (drop i bs)) ∙ ap (λ (n : ℕ). take n (drop i bs)) (sym more)

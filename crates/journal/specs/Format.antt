@@ -10,7 +10,7 @@ use Rattle.journal.specs.declared.kinds.Day.{Day}
 use Rattle.journal.specs.declared.kinds.Record.{Record}
 use Rattle.journal.specs.declared.kinds.Record.TheVariants.{Open, Post, Correct, Close, Pay, Settle}
 
--- the kind byte
+-- 1 open, 2 post, 3 correct, 4 close, 5 pay, 6 settle
 abbrev pub kind_byte : Record → ℕ
 kind_byte (Open leap increase first last) = 1
 kind_byte (Post day) = 2

@@ -2,7 +2,8 @@
 -- Words:
 -- `number_at`, what some bytes stand for, and `row_at`, what they do as a row of numbers of given widths
 -- `low_bytes`, the bytes of a number, and `row_bytes`, those of a row of numbers of given widths
-use Rattle.std.specs.Prelude.{ℕ, zero, suc, ◌+◌, ◌*◌, ◌/◌, ◌%◌, ◌<◌, List, [], ◌∷◌, ◌++◌, slice_index}
+use Rattle.std.specs.Prelude.{ℕ, zero, suc, ◌+◌, ◌*◌, ◌/◌, ◌%◌, ◌^◌, ◌<◌, List, [], ◌∷◌, ◌++◌, slice_index}
+use Rattle.std.specs.List.{AllZip}
 
 -- the number that the w bytes from place i on stand for
 abbrev pub number_at : List ℕ → ℕ → ℕ → ℕ
@@ -25,19 +26,6 @@ row_bytes [] ns = []
 row_bytes (w ∷ ws) [] = []
 row_bytes (w ∷ ws) (n ∷ ns) = low_bytes w n ++ row_bytes ws ns
 
--- how many bytes such a row takes
-abbrev pub row_length : List ℕ → ℕ
-row_length [] = 0
-row_length (w ∷ ws) = w + row_length ws
-
--- one more than the largest number of w bytes
-abbrev pub limit : ℕ → ℕ
-limit zero = 1
-limit (suc w) = 256 * limit w
-
 -- as many numbers as widths, each within its width
 abbrev pub Fit : List ℕ → List ℕ → Type 0
-Fit [] [] = Unit {0}
-Fit [] (n ∷ ns) = ⊥
-Fit (w ∷ ws) [] = ⊥
-Fit (w ∷ ws) (n ∷ ns) = (n < limit w) × Fit ws ns
+Fit ws ns = AllZip (λ w n. n < 256 ^ w) ws ns

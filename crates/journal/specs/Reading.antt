@@ -4,7 +4,9 @@
 -- `read_front`, what a list of bytes begins with
 -- `answer` and `after`, what a reader at a place answers, and where it then stands
 -- `Gives`, what a reader gives of the whole rest of a journal
-use Rattle.std.specs.Prelude.{◌≡◌, ℕ, ◌+◌, Bool, if◌then◌else◌, ◌&&◌, List, [], ◌∷◌, length, drop, Some, None, Ok, Err, Option, Result, ◌==◌, nat_le, slice_index}
+use Rattle.std.specs.Prelude.{◌≡◌, ℕ, ◌+◌, Bool, if◌then◌else◌, List, [], ◌∷◌, length, drop, Some, None, Ok, Err, Option, Result, sum, ◌==◌, nat_le, slice_index}
+use Rattle.std.specs.Int.{is_in_range}
+use Rattle.std.specs.Result.{result_map_both}
 use Rattle.journal.specs.declared.faults.ReadFault.{ReadFault}
 use Rattle.journal.specs.declared.faults.ReadFault.TheVariants.{UnknownKind, CutShort}
 use Rattle.journal.specs.declared.kinds.Day.{Day}
@@ -12,11 +14,11 @@ use Rattle.journal.specs.declared.kinds.Record.{Record}
 use Rattle.journal.specs.declared.kinds.Record.TheVariants.{Open, Post, Correct, Close, Pay, Settle}
 use Rattle.journal.specs.declared.kinds.Placed.{Placed}
 use Rattle.journal.specs.Format.{widths, day_widths, record_length}
-use Rattle.journal.specs.Numbers.{row_at, row_length}
+use Rattle.journal.specs.Numbers.{row_at}
 
 -- a kind byte is 1 to 6
 abbrev pub is_kind : ℕ → Bool
-is_kind k = nat_le 1 k && nat_le k 6
+is_kind k = is_in_range 1 6 k
 
 -- the day whose numbers are given in the order of its bytes
 abbrev pub day_of : List ℕ → Day
@@ -45,7 +47,7 @@ record_of_kind k ns =
 
 -- cut short where fewer bytes are left than the row of numbers takes, else what is made of the numbers
 abbrev pub read_row : {A : Type 0} → List ℕ → (List ℕ → A) → List ℕ → Result A ReadFault
-read_row ws make rest = if nat_le (row_length ws) (length rest) then Ok (make (row_at ws rest 0)) else Err CutShort
+read_row ws make rest = if nat_le (sum ws) (length rest) then Ok (make (row_at ws rest 0)) else Err CutShort
 
 -- the day that post and correct carry
 abbrev pub read_day : List ℕ → Result Day ReadFault
@@ -59,15 +61,10 @@ read_body k rest = read_row (widths k) (record_of_kind k) rest
 abbrev pub read_record : ℕ → List ℕ → Result Record ReadFault
 read_record k rest = if is_kind k then read_body k rest else Err UnknownKind
 
--- what was read is a record, and not the end
-abbrev pub as_record : Result Record ReadFault → Result (Option Record) ReadFault
-as_record (Ok r) = Ok (Some r)
-as_record (Err f) = Err f
-
--- none where no byte is left, else what its first byte and the rest give
+-- none where no byte is left, else the record that the first byte and the rest give, or its refusal
 abbrev pub read_front : List ℕ → Result (Option Record) ReadFault
 read_front [] = Ok None
-read_front (k ∷ rest) = as_record (read_record k rest)
+read_front (k ∷ rest) = result_map_both Some (λ f. f) (read_record k rest)
 
 -- a record comes with the place of its first byte
 abbrev pub with_place : ℕ → Result (Option Record) ReadFault → Result (Option Placed) ReadFault

@@ -5,7 +5,7 @@ use Rattle.journal.specs.declared.faults.WriteFault.TheVariants.{BufferTooShort}
 use Rattle.journal.specs.declared.kinds.Record.{Record}
 use Rattle.journal.specs.Format.{record_bytes}
 
--- an exactly fitting buffer has room
+-- a buffer has room for bytes if it is at least as long
 abbrev pub has_room : List ℕ → List ℕ → Bool
 has_room bs buffer = nat_le (length bs) (length buffer)
 

@@ -1,6 +1,7 @@
 // A whole journal from a stream.
-ghost use Rattle.std.specs.Prelude.{◌≤◌, IfSome, IfOk, SomeIff, length, vec_len, vec_items};
+ghost use Rattle.std.specs.Prelude.{◌≡◌, ◌≤◌, IfSome, IfOk, SomeIff, vec_len, vec_items};
 ghost use Rattle.std.specs.Option.{option_map};
+ghost use Rattle.journal.specs.Inputs.{input_taken, most_bytes};
 
 use std::alloc::Global;
 use std::io;
@@ -11,17 +12,17 @@ const MOST_BYTES: usize = 65_536;
 
 // The bytes, or none where they are more than a program takes.
 fn not_too_long(bytes: Vec<u8>) -> Option<Vec<u8>>
-    ensures { SomeIff result (vec_len bytes ≤ 65536) bytes }
+    ensures { SomeIff result (vec_len bytes ≤ most_bytes) bytes }
 {
     (bytes.len() <= MOST_BYTES).then_some(bytes)
 }
 
 // All that the stream holds, or none where it holds more than a program takes. Of a longer stream no more than one byte too many is read.
 pub fn load<R: Read + Drop>(heap: Global, input: R) -> io::Result<Option<Vec<u8>>>
-    ensures within { IfOk result (λ o. IfSome o (λ bytes. vec_len bytes ≤ 65536)) }
+    ensures within { IfOk result (λ o. IfSome o (λ bytes. vec_len bytes ≤ most_bytes)) }
 
     // Where the stream's bytes are known, as those of a slice are.
-    ensures whole { IfSome (R.remaining input) (λ all. IfOk result (λ o. SomeIff (option_map vec_items o) (length all ≤ 65536) all)) }
+    ensures whole { IfSome (R.remaining input) (λ all. IfOk result (λ o. option_map vec_items o ≡ input_taken all)) }
 {
     let mut bytes = Vec::new(heap);
     input.take(MOST_BYTES as u64 + 1).read_to_end(&mut bytes)?;
