@@ -15,7 +15,7 @@ mixed_day base k = record {
   variance_rate = 30000 + 50 * k;
 }
 
--- a day with as much as can be metered and nothing nominated
+-- a full day: R and C are 200,000, V is 2,000,000, N, H and I are 0; not curtailed
 abbrev pub full_day : ℕ → DayNumbers
 full_day kind = record {
   kind = kind;
@@ -28,7 +28,7 @@ full_day kind = record {
   variance_rate = 2000000;
 }
 
--- a day on which gas came and none was used
+-- an idle day: R is 200,000 and all else 0; normal, not curtailed
 abbrev pub idle_day : DayNumbers
 idle_day = record {
   kind = 0;

@@ -6,6 +6,7 @@ use Rattle.prices.specs.declared.days.Pattern.{Pattern}
 use Rattle.prices.specs.declared.days.Pattern.TheVariants.{Mixed, Full, Idle}
 use Rattle.prices.specs.Days.{full_day, idle_day, mixed_day}
 
+-- the k-th day of a pattern
 abbrev pub day_of : Pattern → ℕ → DayNumbers
 day_of (Mixed base) k = mixed_day base k
 day_of (Full kind) k = full_day (kind_number kind)

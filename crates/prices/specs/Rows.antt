@@ -1,4 +1,4 @@
--- What the program prints of a month on a schedule: a row for each item.
+-- What the program prints: a header, and of a month on a schedule a row for each item.
 use Rattle.std.specs.Prelude.{ℕ, List, [], ◌∷◌, ◌++◌, ℤ, Ok, Err, codes, decimal}
 use Rattle.std.specs.Fmt.{signed_decimal}
 use Rattle.gas.specs.declared.items.Item.{Item}
@@ -6,6 +6,10 @@ use Rattle.gas.specs.declared.items.ScheduleFault.{ScheduleFault}
 use Rattle.gas.specs.Faults.{schedule_values}
 use Rattle.gas.specs.Items.{item_number}
 use Rattle.gas.specs.Limits.{Answer}
+
+-- what the fields of a row are
+abbrev pub header : List ℕ
+header = codes "case item millicents"
 
 -- the case, the item and its amount
 abbrev pub amount_text : ℕ → Item → ℤ → List ℕ
@@ -19,11 +23,12 @@ values_text v = decimal v.0 ++ (codes " " ++ (decimal v.1 ++ (codes " " ++ (deci
 abbrev pub refusal_text : ℕ → Item → ScheduleFault → List ℕ
 refusal_text n item fault = decimal n ++ (codes " " ++ (decimal (item_number item) ++ (codes " refused " ++ values_text (schedule_values fault))))
 
+-- the amount, or the fault
 abbrev pub answer_text : ℕ → Item → Answer → List ℕ
 answer_text n item (Ok z) = amount_text n item z
 answer_text n item (Err fault) = refusal_text n item fault
 
--- a row to a line
+-- a row for each item, each ended by a newline
 abbrev pub table_text : ℕ → (Item → Answer) → List Item → List ℕ
 table_text n price [] = []
 table_text n price (item ∷ items) = answer_text n item (price item) ++ (codes "\n" ++ table_text n price items)

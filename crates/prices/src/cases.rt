@@ -3,7 +3,7 @@ ghost use Rattle.std.specs.Prelude.{◌≡◌, Ok, IfOk};
 ghost use Rattle.gas.specs.Facts.{checked_facts, facts_of};
 
 use crate::days::Pattern;
-use crate::tables::table;
+use crate::tables::{head, table};
 use crate::terms::{
     AFFORDABILITY, DEAR_AFFORDABILITY, FIRM, FRANCHISE, SECOND_AFFORDABILITY, SECOND_FRANCHISE,
     TOLERANCE, WEATHER, large, small,
@@ -222,7 +222,7 @@ fn stacked_months(text: &mut String, heap: Global) -> anyhow::Result<()> {
 // Everything that the program prints.
 pub fn output(heap: Global) -> anyhow::Result<String> {
     let mut text = String::new(heap);
-    writeln!(text, "case item millicents")?;
+    head(&mut text)?;
     mixed_months(&mut text, heap)?;
     full_months(&mut text, heap)?;
     spring_months(&mut text, heap)?;

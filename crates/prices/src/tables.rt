@@ -1,12 +1,20 @@
 // The rows of a month on a schedule.
-ghost use Rattle.std.specs.Prelude.{◌≡◌, ◌++◌, OnOk, string_bytes};
+ghost use Rattle.std.specs.Prelude.{◌≡◌, ◌++◌, OnOk, codes, string_bytes};
 ghost use Rattle.gas.specs.Facts.{facts_of};
 ghost use Rattle.gas.specs.Items.{all_items};
-ghost use Rattle.prices.specs.Rows.{table_text};
+ghost use Rattle.prices.specs.Rows.{header, table_text};
 
 use crate::rows::Row;
 use gas::{Facts, Item, Schedule};
 use std::fmt;
+
+// The row above all others.
+pub fn head(text: &mut String) -> Result<(), fmt::Error>
+    ensures { OnOk result (string_bytes text.new ≡ string_bytes text.old ++ (header ++ codes "\n")) }
+{
+    writeln!(text, "case item millicents")?;
+    Ok(())
+}
 
 // A row for each of some items.
 fn rows<S: Schedule>(

@@ -1,7 +1,7 @@
 -- What a listing of a journal says.
 -- Words:
--- `row`, the text of one record, and `refusal`, that of the refusal at which reading stops
--- `listing`, the text of a whole journal
+-- `row_text`, the text of one record, and `refusal_text`, that of the refusal at which reading stops
+-- `listing_text`, the text of a whole journal
 use Rattle.std.specs.Prelude.{◌≡◌, ℕ, ◌+◌, List, [], ◌∷◌, ◌++◌, Some, None, codes, decimal, Option}
 use Rattle.journal.specs.declared.faults.ReadFault.{ReadFault}
 use Rattle.journal.specs.declared.kinds.Placed.{Placed}
@@ -52,7 +52,7 @@ row_text k p = decimal k ++ (codes " " ++ (decimal p.place ++ (codes " " ++ reco
 abbrev pub refusal_text : ℕ → ReadFault → List ℕ
 refusal_text k f = codes "refused " ++ (decimal k ++ (codes " " ++ decimal (read_number f)))
 
--- a row to a line, numbered from k, and last the refusal where there is one
+-- a row for each record, numbered from k on, and last one for the refusal where there is one; each ends with a newline
 abbrev pub listing_text : ℕ → List Placed → Option ReadFault → List ℕ
 listing_text k [] None = []
 listing_text k [] (Some f) = refusal_text k f ++ codes "\n"
@@ -62,7 +62,7 @@ listing_text k (p ∷ ps) end = row_text k p ++ (codes "\n" ++ listing_text (k +
 abbrev pub Lists : List ℕ → List ℕ → Type 0
 Lists bs text = (ps : List Placed) × (end : Option ReadFault) × Gives bs 0 ps end × (text ≡ listing_text 1 ps end)
 
--- what the program writes of its input: nothing but `too long` where there was more than a journal may hold
+-- what the program writes by what was taken of its input: the one row `too long` where it has more than 65,536 bytes, which are not taken, else the listing
 abbrev pub Writes : Option (List ℕ) → List ℕ → Type 0
 Writes None text = text ≡ codes "too long\n"
 Writes (Some bs) text = Lists bs text
