@@ -1,5 +1,5 @@
 -- What the program prints: a header, and of a month on a schedule a row for each item.
-use Rattle.std.specs.Prelude.{ℕ, List, [], ◌∷◌, ◌++◌, ℤ, Ok, Err, codes, decimal}
+use Rattle.std.specs.Prelude.{ℕ, List, ◌++◌, ℤ, Ok, Err, codes, decimal, flat_map}
 use Rattle.std.specs.Fmt.{signed_decimal}
 use Rattle.gas.specs.declared.items.Item.{Item}
 use Rattle.gas.specs.declared.items.ScheduleFault.{ScheduleFault}
@@ -30,5 +30,4 @@ answer_text n item (Err fault) = refusal_text n item fault
 
 -- a row for each item, each ended by a newline
 abbrev pub table_text : ℕ → (Item → Answer) → List Item → List ℕ
-table_text n price [] = []
-table_text n price (item ∷ items) = answer_text n item (price item) ++ (codes "\n" ++ table_text n price items)
+table_text n price items = flat_map (λ item. answer_text n item (price item) ++ codes "\n") items
