@@ -8,3 +8,4 @@ pub mod Limits
 pub mod Made
 pub mod Money
 pub mod Month
+pub mod Notice
