@@ -46,32 +46,35 @@ abbrev pub first_failing : Tests → Option AccountFault
 first_failing [] = None
 first_failing (t ∷ ts) = if t.0 then first_failing ts else Some t.1
 
-abbrev pub lawful : Bool → InputFault → Bool × AccountFault
-lawful ok f = (ok, fault.Input f)
+-- a test of the input, with its refusal
+abbrev pub input_test : Bool → InputFault → Bool × AccountFault
+input_test ok f = (ok, fault.Input f)
 
+-- the test that an account is opened, with its refusal
 abbrev pub opened : Year → Bool × AccountFault
 opened y = (is_opened y.standing, fault.NotOpened)
 
 -- the interim months, the leap mark, and the increase
 abbrev pub opening_input : ℕ → Opening → Tests
 opening_input leap o =
-    lawful (nat_le o.first last_month && (nat_le o.last last_month && nat_le o.first o.last)) input.Month ∷ lawful (nat_le leap 1) input.Mark ∷
-    lawful (nat_le o.increase whole) input.PerMille ∷ []
+    input_test (nat_le o.first last_month && (nat_le o.last last_month && nat_le o.first o.last)) input.Month ∷ input_test (nat_le leap 1) input.Mark ∷
+    input_test (nat_le o.increase whole) input.PerMille ∷ []
 
 -- the final increase and the interest
 abbrev pub settlement_input : Settlement → Bool × AccountFault
-settlement_input t = lawful (nat_le t.final_increase whole && nat_le t.interest whole) input.PerMille
+settlement_input t = input_test (nat_le t.final_increase whole && nat_le t.interest whole) input.PerMille
 
 -- a month, a day of it, and what the day was
 abbrev pub day_input : Bool → ℕ → ℕ → DayNumbers → Tests
 day_input leap month day n =
-    lawful (nat_le month last_month) input.Month ∷ lawful (nat_le 1 day && nat_le day (month_length leap month)) input.Day ∷
-    map (λ t. lawful t.0 t.1) (tests_of_day n)
+    input_test (nat_le month last_month) input.Month ∷ input_test (nat_le 1 day && nat_le day (month_length leap month)) input.Day ∷
+    map (λ t. input_test t.0 t.1) (tests_of_day n)
 
 -- and last whether it is posted, or is not
 abbrev pub day_tests : Year → ℕ → ℕ → DayNumbers → Bool × AccountFault → Tests
 day_tests y month day n stored = opened y ∷ (day_input y.leap month day n ++ (stored ∷ []))
 
+-- a record stands at the place of a day
 abbrev pub is_posted : Year → ℕ → ℕ → Bool
 is_posted y month day = is_some (slice_index_or y.days (place_of month day) None)
 
@@ -85,7 +88,7 @@ tests (opening leap o) y = (not (is_opened y.standing), fault.OpenedAlready) ∷
 tests (posting month day n) y = day_tests y month day n (not (is_posted y month day), fault.PostedAlready)
 tests (correction month day n) y = day_tests y month day n (is_posted y month day, fault.NotPosted)
 tests (closing month numbers) y =
-    opened y ∷ lawful (nat_le month last_month) input.Month ∷ lawful (closes numbers) input.Quantity ∷
+    opened y ∷ input_test (nat_le month last_month) input.Month ∷ input_test (closes numbers) input.Quantity ∷
     ((month == length y.closings), fault.NotEarliest) ∷ (is_complete y.leap y.days month, fault.LacksDay) ∷ []
 tests (payment amount) y = opened y ∷ (nat_le 1 amount && nat_le amount most_paid, fault.Payment) ∷ []
 tests (settling t) y =
@@ -114,6 +117,7 @@ learned (closing month numbers) y = record y { closings = y.closings ++ (numbers
 learned (payment amount) y = y
 learned (settling t) y = record y { standing = settled_by t y.standing }
 
+-- the fault of a price, as the account's refusal
 abbrev pub by_account : {A : Type 0} → Result A ScheduleFault → Result A AccountFault
 by_account (Ok a) = Ok a
 by_account (Err e) = Err (fault.Schedule e)
@@ -131,10 +135,12 @@ written s (settling t) y lines = by_account (due_in s y lines)
 abbrev pub most_lines : ℕ
 most_lines = 1024
 
+-- the account with some lines more; refused by the fault of a price, else where there is no room for all of them
 abbrev pub with_lines : Year → List Line → Result (List Line) AccountFault → Result State AccountFault
 with_lines y lines (Ok more) = if nat_le (length lines + length more) most_lines then Ok (record { year = y; lines = lines ++ more }) else Err fault.NoRoom
 with_lines y lines (Err e) = Err e
 
+-- the refusal of a test that failed, or what follows if none did
 abbrev pub unless_refused : Option AccountFault → Result State AccountFault → Result State AccountFault
 unless_refused None r = r
 unless_refused (Some f) r = Err f

@@ -9,6 +9,7 @@ use Rattle.gas.specs.declared.day.DayRecord.{DayRecord}
 use Rattle.gas.specs.Calendar.{month_length}
 use Rattle.gas.specs.Day.{metered, received}
 
+-- what stands at each place of a year: the record of a day, or none
 abbrev pub Places : Type 0
 Places = List (Option DayRecord)
 

@@ -22,6 +22,7 @@ pub record Entry : Type 0 where
   pub call : Call
   pub refusal : Option AccountFault
 
+-- the calls so far with their answers, the newest first
 abbrev pub History : Type 0
 History = List Entry
 

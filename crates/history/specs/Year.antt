@@ -32,11 +32,13 @@ pub record Year : Type 0 where
 abbrev pub unknown_year : Year
 unknown_year = record { standing = not_opened; leap = false; days = replicate 372 None; closings = [] }
 
+-- an account is opened once it is running or settled
 abbrev pub is_opened : Standing → Bool
 is_opened not_opened = false
 is_opened (running o) = true
 is_opened (settled o t) = true
 
+-- an account is settled once a settlement was accepted
 abbrev pub is_settled : Standing → Bool
 is_settled not_opened = false
 is_settled (running o) = false
@@ -48,13 +50,15 @@ opening_of not_opened = record { increase = 0; first = 0; last = 0 }
 opening_of (running o) = o
 opening_of (settled o t) = o
 
--- the months that are closed, those that are open, and all
+-- the months that are closed, which are the first ones of the year
 abbrev pub closed_months : Year → List ℕ
 closed_months y = range_with_len 0 (length y.closings)
 
+-- the months that are open
 abbrev pub open_months : Year → List ℕ
 open_months y = range_with_len (length y.closings) (12 - length y.closings)
 
+-- all twelve
 abbrev pub all_months : List ℕ
 all_months = range_with_len 0 12
 
