@@ -19,10 +19,11 @@ pub record Contents : Type 0 where
 abbrev pub state_of : Standing → Contents → State
 state_of standing b = record { year = year_by standing b.year; lines = b.lines }
 
--- a book with other days, and with other closings
+-- a book with other days
 abbrev pub with_days : Contents → Places → Contents
 with_days b days = record { year = record { leap = b.year.leap; days = days; closings = b.year.closings }; lines = b.lines }
 
+-- a book with other closings
 abbrev pub with_closings : Contents → List ClosingNumbers → Contents
 with_closings b closings = record { year = record { leap = b.year.leap; days = b.year.days; closings = closings }; lines = b.lines }
 
