@@ -38,21 +38,24 @@ call_of (Close month index interruptible firm) = closing month (record { index =
 call_of (Pay amount) = payment amount
 call_of (Settle final interest) = settling (record { final_increase = final; interest = interest })
 
--- what an account answers to a record, its entry in the history, and the account that it leaves
+-- the refusal of a record, if it is refused
 abbrev pub refusal_of : Tariff → State → Record → Option AccountFault
 refusal_of s a r = result_err (outcome s (call_of r) a)
 
+-- the entry of a record in the history: its call, and whether it was refused
 abbrev pub entry_of : Tariff → State → Record → Entry
 entry_of s a r = record { call = call_of r; refusal = refusal_of s a r }
 
+-- the account that a record leaves; a refused one leaves it as it was
 abbrev pub left_by : Tariff → State → Record → State
 left_by s a r = result_unwrap_or (outcome s (call_of r) a) a
 
--- the history of an account, and the account, after records that were played one after another
+-- the history of an account after records that were played one after another, each on what the one before had left
 abbrev pub history_after : Tariff → History → State → List Placed → History
 history_after s h a [] = h
 history_after s h a (p ∷ ps) = history_after s (entry_of s a p.«record» ∷ h) (left_by s a p.«record») ps
 
+-- the account after them
 abbrev pub account_after : Tariff → State → List Placed → State
 account_after s a [] = a
 account_after s a (p ∷ ps) = account_after s (left_by s a p.«record») ps
@@ -77,7 +80,7 @@ abbrev pub unread_at : ℕ → ℕ → Option ReadFault → List Refusal
 unread_at k place None = []
 unread_at k place (Some f) = record { number = k; fault = Unread place f } ∷ []
 
--- what was refused of records of which the first, record k, stands at a place, in order
+-- the refusals, in order, of records from number k on; place is where the reader stands, for the refusal at which reading stops
 abbrev pub refusals_of : Tariff → ℕ → ℕ → State → List Placed → Option ReadFault → List Refusal
 refusals_of s k place a [] end = unread_at k place end
 refusals_of s k place a (p ∷ ps) end =

@@ -6,6 +6,7 @@ use Rattle.history.specs.declared.faults.AccountFault.{AccountFault}
 use Rattle.history.specs.declared.faults.AccountFault.TheVariants as fault
 use Rattle.history.specs.Year as year
 
+-- the standing by the numbers of the opening and the settlement
 abbrev pub standing_now : Standing → year.Standing
 standing_now NotOpened = year.not_opened
 standing_now (Running increase first last) = year.running (record { increase = increase.share; first = first.number; last = last.number })
