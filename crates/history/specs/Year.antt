@@ -2,7 +2,7 @@
 use Rattle.std.specs.Prelude.{◌≡◌, ℕ, ◌+◌, ◌-◌, ◌<◌, min, Bool, true, false, ◌&&◌, List, [], length, replicate, None, nat_le}
 use Rattle.std.specs.List.{range_with_len}
 use Rattle.gas.specs.declared.month.ClosingNumbers.{ClosingNumbers}
-use Rattle.history.specs.Days.{Places, is_complete}
+use Rattle.history.specs.Days.{Places, is_complete, month_place}
 
 -- what the opening says of the interim rate: the increase, per mille, and the first and the last interim month
 pub record Opening : Type 0 where
@@ -28,9 +28,9 @@ pub record Year : Type 0 where
   pub days : Places
   pub closings : List ClosingNumbers
 
--- at first nothing is known; there are 372 places for days
+-- at first nothing is known: the places of all twelve months are empty
 abbrev pub unknown_year : Year
-unknown_year = record { standing = not_opened; leap = false; days = replicate 372 None; closings = [] }
+unknown_year = record { standing = not_opened; leap = false; days = replicate (month_place 12) None; closings = [] }
 
 -- an account is opened once it is running or settled
 abbrev pub is_opened : Standing → Bool
