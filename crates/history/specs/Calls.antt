@@ -17,7 +17,7 @@ use Rattle.history.specs.Days.{Places, is_complete, place_of}
 use Rattle.history.specs.Due.{due_in}
 use Rattle.history.specs.Headings.{line_of}
 use Rattle.history.specs.Prices.{Tariff}
-use Rattle.history.specs.Year.{Opening, Settlement, Standing, Year, is_opened, is_settled, not_opened, opening_of, running, settled, unknown_year}
+use Rattle.history.specs.Year.{Opening, Settlement, Year, is_opened, is_settled, opening_of, running, settled, unknown_year}
 
 -- a call with its numbers as they came, lawful or not
 pub data Call : Type 0 where
@@ -54,10 +54,10 @@ input_test ok f = (ok, fault.Input f)
 abbrev pub opened : Year → Bool × AccountFault
 opened y = (is_opened y.standing, fault.NotOpened)
 
--- the interim months, the leap mark, and the increase
+-- the interim months, of which the first does not come after the last, the leap mark, and the increase
 abbrev pub opening_input : ℕ → Opening → Tests
 opening_input leap o =
-    input_test (nat_le o.first last_month && (nat_le o.last last_month && nat_le o.first o.last)) input.Month ∷ input_test (nat_le leap 1) input.Mark ∷
+    input_test (nat_le o.last last_month && nat_le o.first o.last) input.Month ∷ input_test (nat_le leap 1) input.Mark ∷
     input_test (nat_le o.increase whole) input.PerMille ∷ []
 
 -- the final increase and the interest
@@ -99,11 +99,6 @@ abbrev pub stored : Result DayRecord InputFault → Places → ℕ → Places
 stored (Ok day) days place = slice_set days place (Some day)
 stored (Err e) days place = days
 
-abbrev pub settled_by : Settlement → Standing → Standing
-settled_by t not_opened = not_opened
-settled_by t (running o) = settled o t
-settled_by t (settled o old) = settled o old
-
 -- a year with the record of a day, posted or put in another's place
 abbrev pub with_day : Year → ℕ → ℕ → DayNumbers → Year
 with_day y month day n = record y { days = stored (day_of n) y.days (place_of month day) }
@@ -115,7 +110,7 @@ learned (posting month day n) y = with_day y month day n
 learned (correction month day n) y = with_day y month day n
 learned (closing month numbers) y = record y { closings = y.closings ++ (numbers ∷ []) }
 learned (payment amount) y = y
-learned (settling t) y = record y { standing = settled_by t y.standing }
+learned (settling t) y = record y { standing = settled (opening_of y.standing) t }
 
 -- the fault of a price, as the account's refusal
 abbrev pub by_account : {A : Type 0} → Result A ScheduleFault → Result A AccountFault

@@ -2,7 +2,7 @@
 -- Words:
 -- a history, the calls so far with their answers, the newest first
 -- a run, what a new account has become by a history
-use Rattle.std.specs.Prelude.{◌≡◌, ℕ, ◌<◌, if◌then◌else◌, List, [], ◌∷◌, length, ℤ, pos, ◌+ℤ◌, Some, None, Ok, Option, ◌==◌}
+use Rattle.std.specs.Prelude.{◌≡◌, ℕ, ◌<◌, if◌then◌else◌, List, [], ◌∷◌, length, ℤ, pos, ◌+ℤ◌, Ok, Option, ◌==◌, is_some}
 use Rattle.std.specs.Int.{int_min}
 use Rattle.std.specs.Result.{result_err, result_unwrap_or}
 use Rattle.gas.specs.declared.items.Item.{Item}
@@ -26,23 +26,26 @@ pub record Entry : Type 0 where
 abbrev pub History : Type 0
 History = List Entry
 
--- a refused call tells nothing
-abbrev pub noted : Option AccountFault → Call → Year → Year
-noted None c y = learned c y
-noted (Some f) c y = y
-
--- the year as known from the calls alone
+-- the year as known from the calls alone; a refused one tells nothing
 abbrev pub known : History → Year
 known [] = unknown_year
-known (e ∷ h) = noted e.refusal e.call (known h)
+known (e ∷ h) = if is_some e.refusal then known h else learned e.call (known h)
 
 -- a new account knows nothing and has written nothing
 abbrev pub new_state : State
 new_state = record { year = unknown_year; lines = [] }
 
--- a call that found the account a, answered as the entry says and left b: the answer and b are those of its outcome, and a refused call leaves the account as it was
+-- the refusal of a call that finds an account, if it is refused
+abbrev pub refusal_by : Tariff → Call → State → Option AccountFault
+refusal_by s c a = result_err (outcome s c a)
+
+-- the account that a call leaves; a refused one leaves it as it was
+abbrev pub left_by : Tariff → Call → State → State
+left_by s c a = result_unwrap_or (outcome s c a) a
+
+-- a call that found the account a, answered as the entry says and left b: both are those of its outcome
 abbrev pub Step : Tariff → State → Entry → State → Type 0
-Step s a e b = (e.refusal ≡ result_err (outcome s e.call a)) × (b ≡ result_unwrap_or (outcome s e.call a) a)
+Step s a e b = (e.refusal ≡ refusal_by s e.call a) × (b ≡ left_by s e.call a)
 
 -- each call found what the one before left
 abbrev pub Run : Tariff → History → State → Type 0
