@@ -2,7 +2,7 @@
 -- Words:
 -- a history, the calls so far with their answers, the newest first
 -- a run, what a new account has become by a history
-use Rattle.std.specs.Prelude.{◌≡◌, ℕ, ◌<◌, if◌then◌else◌, List, [], ◌∷◌, length, ℤ, pos, ◌+ℤ◌, Ok, Option, ◌==◌, is_some}
+use Rattle.std.specs.Prelude.{◌≡◌, ℕ, ◌<◌, if◌then◌else◌, List, [], ◌∷◌, length, ℤ, ◌+ℤ◌, Ok, Option, ◌==◌, is_some}
 use Rattle.std.specs.Int.{int_min}
 use Rattle.std.specs.Result.{result_err, result_unwrap_or}
 use Rattle.gas.specs.declared.items.Item.{Item}
@@ -12,9 +12,8 @@ use Rattle.history.specs.declared.faults.AccountFault.{AccountFault}
 use Rattle.history.specs.declared.lines.Heading.TheVariants.{Priced, Refund}
 use Rattle.history.specs.declared.lines.Line.{Line}
 use Rattle.history.specs.Calls.{Call, State, learned, outcome}
-use Rattle.history.specs.Headings.{heading_item, heading_month, money_on, sum_under, therms_on}
+use Rattle.history.specs.Headings.{heading_item, heading_month, money_on, sum_under, sum_where, therms_on}
 use Rattle.history.specs.Prices.{Tariff, all_therms, final_price, interim_price, open_therms, price_of}
-use Rattle.history.specs.Sums.{sum_z}
 use Rattle.history.specs.Year.{Opening, Settlement, Year, is_interim, settled, unknown_year}
 
 -- a call and its answer: none if it was accepted, else the refusal
@@ -54,11 +53,11 @@ Run s (e ∷ h) b = (a : State) × Run s h a × Step s a e b
 
 -- the therms of all monthly balancing lines
 abbrev pub balanced_therms : List Line → ℤ
-balanced_therms lines = sum_z (λ l. if heading_item l.heading == item_number MonthlyBalancing then therms_on l else pos 0) lines
+balanced_therms lines = sum_where (λ h. heading_item h == item_number MonthlyBalancing) therms_on lines
 
 -- the money of all lines of the interim months
 abbrev pub interim_lines : Opening → List Line → ℤ
-interim_lines o lines = sum_z (λ l. if is_interim o (heading_month l.heading) then money_on l else pos 0) lines
+interim_lines o lines = sum_where (λ h. is_interim o (heading_month h)) money_on lines
 
 -- months: the lines under an item of a closed month sum to the item's price, which is no fault
 -- therms: what all monthly balancing lines carry and what is open make up the net therms of all posted days
