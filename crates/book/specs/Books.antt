@@ -1,5 +1,6 @@
 -- What a book holds, and what is true of every book.
-use Rattle.std.specs.Prelude.{◌≤◌, Bool, List, [], ◌∷◌, ◌++◌, length}
+use Rattle.std.specs.Prelude.{◌≤◌, Bool, List, [], length}
+use Rattle.std.specs.List.{push}
 use Rattle.gas.specs.declared.month.ClosingNumbers.{ClosingNumbers}
 use Rattle.history.specs.declared.lines.Line.{Line}
 use Rattle.history.specs.Calls.{State, most_lines}
@@ -21,19 +22,19 @@ state_of standing b = record { year = year_by standing b.year; lines = b.lines }
 
 -- a book with other days
 abbrev pub with_days : Contents → Places → Contents
-with_days b days = record { year = record { leap = b.year.leap; days = days; closings = b.year.closings }; lines = b.lines }
+with_days b days = record b { year = record b.year { days = days } }
 
 -- a book with other closings
 abbrev pub with_closings : Contents → List ClosingNumbers → Contents
-with_closings b closings = record { year = record { leap = b.year.leap; days = b.year.days; closings = closings }; lines = b.lines }
+with_closings b closings = record b { year = record b.year { closings = closings } }
 
 -- a book with one line more
 abbrev pub with_line : Contents → Line → Contents
-with_line b line = record { year = b.year; lines = b.lines ++ line ∷ [] }
+with_line b line = record b { lines = push b.lines line }
 
 -- a book whose year begins
 abbrev pub begun : Contents → Bool → Contents
-begun b leap = record { year = record { leap = leap; days = unknown_year.days; closings = [] }; lines = b.lines }
+begun b leap = record b { year = record { leap = leap; days = unknown_year.days; closings = [] } }
 
 -- few: the closed months, which run from November on, are at most twelve
 -- complete: all their days are posted; each is lawful, as every day record is
