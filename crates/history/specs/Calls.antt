@@ -1,5 +1,7 @@
 -- The six calls of an account, and the one outcome of each.
 use Rattle.std.specs.Prelude.{ℕ, ◌+◌, Bool, if◌then◌else◌, not, ◌&&◌, List, [], ◌∷◌, ◌++◌, length, map, pos, neg_ℤ, is_some, Some, None, Ok, Err, Option, Result, ◌==◌, nat_le, nat_lt, slice_index_or, slice_set}
+use Rattle.std.specs.Int.{is_in_range}
+use Rattle.std.specs.List.{push}
 use Rattle.gas.specs.declared.day.DayNumbers.{DayNumbers}
 use Rattle.gas.specs.declared.day.DayRecord.{DayRecord}
 use Rattle.gas.specs.declared.faults.InputFault.{InputFault}
@@ -67,12 +69,12 @@ settlement_input t = input_test (nat_le t.final_increase whole && nat_le t.inter
 -- a month, a day of it, and what the day was
 abbrev pub day_input : Bool → ℕ → ℕ → DayNumbers → Tests
 day_input leap month day n =
-    input_test (nat_le month last_month) input.Month ∷ input_test (nat_le 1 day && nat_le day (month_length leap month)) input.Day ∷
+    input_test (nat_le month last_month) input.Month ∷ input_test (is_in_range 1 (month_length leap month) day) input.Day ∷
     map (λ t. input_test t.0 t.1) (tests_of_day n)
 
 -- and last whether it is posted, or is not
 abbrev pub day_tests : Year → ℕ → ℕ → DayNumbers → Bool × AccountFault → Tests
-day_tests y month day n stored = opened y ∷ (day_input y.leap month day n ++ (stored ∷ []))
+day_tests y month day n stored = opened y ∷ push (day_input y.leap month day n) stored
 
 -- a record stands at the place of a day
 abbrev pub is_posted : Year → ℕ → ℕ → Bool
@@ -90,7 +92,7 @@ tests (correction month day n) y = day_tests y month day n (is_posted y month da
 tests (closing month numbers) y =
     opened y ∷ input_test (nat_le month last_month) input.Month ∷ input_test (closes numbers) input.Quantity ∷
     ((month == length y.closings), fault.NotEarliest) ∷ (is_complete y.leap y.days month, fault.LacksDay) ∷ []
-tests (payment amount) y = opened y ∷ (nat_le 1 amount && nat_le amount most_paid, fault.Payment) ∷ []
+tests (payment amount) y = opened y ∷ (is_in_range 1 most_paid amount, fault.Payment) ∷ []
 tests (settling t) y =
     opened y ∷ settlement_input t ∷ (not (is_settled y.standing), fault.SettledAlready) ∷ (nat_lt (opening_of y.standing).last (length y.closings), fault.InterimOpen) ∷ []
 
@@ -108,7 +110,7 @@ abbrev pub learned : Call → Year → Year
 learned (opening leap o) y = record unknown_year { standing = running o; leap = (leap == 1) }
 learned (posting month day n) y = with_day y month day n
 learned (correction month day n) y = with_day y month day n
-learned (closing month numbers) y = record y { closings = y.closings ++ (numbers ∷ []) }
+learned (closing month numbers) y = record y { closings = push y.closings numbers }
 learned (payment amount) y = y
 learned (settling t) y = record y { standing = settled (opening_of y.standing) t }
 

@@ -1,5 +1,6 @@
 -- The year as it is known from the calls that were accepted.
-use Rattle.std.specs.Prelude.{◌≡◌, ℕ, ◌+◌, ◌-◌, ◌<◌, min, Bool, true, false, ◌&&◌, List, [], length, replicate, None, nat_le}
+use Rattle.std.specs.Prelude.{◌≡◌, ℕ, ◌+◌, ◌-◌, ◌<◌, min, Bool, true, false, List, [], length, replicate, None}
+use Rattle.std.specs.Int.{is_in_range}
 use Rattle.std.specs.List.{range_with_len}
 use Rattle.gas.specs.declared.month.ClosingNumbers.{ClosingNumbers}
 use Rattle.history.specs.Days.{Places, is_complete, month_place}
@@ -58,17 +59,13 @@ closed_months y = range_with_len 0 (length y.closings)
 abbrev pub open_months : Year → List ℕ
 open_months y = range_with_len (length y.closings) (12 - length y.closings)
 
--- all twelve
-abbrev pub all_months : List ℕ
-all_months = range_with_len 0 12
-
 -- each closed month has all of its days
 abbrev pub Complete : Year → Type 0
 Complete y = (month : ℕ) → month < length y.closings → is_complete y.leap y.days month ≡ true
 
 -- the interim months run from the first to the last
 abbrev pub is_interim : Opening → ℕ → Bool
-is_interim o month = nat_le o.first month && nat_le month o.last
+is_interim o month = is_in_range o.first o.last month
 
 -- the interim months that are closed; once an account is settled, these are all of them
 abbrev pub closed_interim : Year → List ℕ
