@@ -1,7 +1,7 @@
 -- The year as it is known from the calls that were accepted.
-use Rattle.std.specs.Prelude.{◌≡◌, ℕ, ◌+◌, ◌-◌, ◌<◌, min, Bool, true, false, List, [], length, replicate, None}
+use Rattle.std.specs.Prelude.{◌≡◌, ℕ, ◌-◌, ◌<◌, Bool, true, false, List, [], length, replicate, None}
 use Rattle.std.specs.Int.{is_in_range}
-use Rattle.std.specs.List.{range_with_len}
+use Rattle.std.specs.List.{filter, range_with_len}
 use Rattle.gas.specs.declared.month.ClosingNumbers.{ClosingNumbers}
 use Rattle.history.specs.Days.{Places, is_complete, month_place}
 
@@ -69,4 +69,4 @@ is_interim o month = is_in_range o.first o.last month
 
 -- the interim months that are closed; once an account is settled, these are all of them
 abbrev pub closed_interim : Year → List ℕ
-closed_interim y = range_with_len (opening_of y.standing).first (min ((opening_of y.standing).last + 1) (length y.closings) - (opening_of y.standing).first)
+closed_interim y = filter (is_interim (opening_of y.standing)) (closed_months y)
