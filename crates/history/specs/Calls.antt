@@ -2,6 +2,7 @@
 use Rattle.std.specs.Prelude.{ℕ, ◌+◌, Bool, if◌then◌else◌, not, ◌&&◌, List, [], ◌∷◌, ◌++◌, length, map, pos, neg_ℤ, is_some, Some, None, Ok, Err, Option, Result, ◌==◌, nat_le, nat_lt, slice_index_or, slice_set}
 use Rattle.std.specs.Int.{is_in_range}
 use Rattle.std.specs.List.{push}
+use Rattle.std.specs.Result.{result_map_both}
 use Rattle.gas.specs.declared.day.DayNumbers.{DayNumbers}
 use Rattle.gas.specs.declared.day.DayRecord.{DayRecord}
 use Rattle.gas.specs.declared.faults.InputFault.{InputFault}
@@ -116,8 +117,7 @@ learned (settling t) y = record y { standing = settled (opening_of y.standing) t
 
 -- the fault of a price, as the account's refusal
 abbrev pub by_account : {A : Type 0} → Result A ScheduleFault → Result A AccountFault
-by_account (Ok a) = Ok a
-by_account (Err e) = Err (fault.Schedule e)
+by_account r = result_map_both (λ a. a) fault.Schedule r
 
 -- the lines that a call writes in the year as known after it, or the fault of a price
 abbrev pub written : Tariff → Call → Year → List Line → Result (List Line) AccountFault
