@@ -1,5 +1,6 @@
 -- What the records of a journal make of an account.
 use Rattle.std.specs.Prelude.{ℕ, ◌+◌, List, [], ◌∷◌, ◌++◌, Some, None, Ok, Err, Option, Result}
+use Rattle.std.specs.Result.{result_map_both}
 use Rattle.gas.specs.declared.day.DayNumbers.{DayNumbers}
 use Rattle.history.specs.declared.faults.AccountFault.{AccountFault}
 use Rattle.history.specs.Calls.{Call, State, closing, correction, opening, payment, posting, settling}
@@ -53,8 +54,7 @@ account_after s a (p ∷ ps) = account_after s (left_by s (call_of p.«record»)
 
 -- what a reader at a place answers, a refusal with the place
 abbrev pub read_at : ℕ → Result (Option Placed) ReadFault → Result (Option Placed) JournalFault
-read_at place (Ok next) = Ok next
-read_at place (Err f) = Err (Unread place f)
+read_at place r = result_map_both (λ next. next) (Unread place) r
 
 -- what is answered of a record at a place, by its refusal if it was refused
 abbrev pub entered_at : ℕ → Option AccountFault → Result (Unit {0}) JournalFault
