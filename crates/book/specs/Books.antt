@@ -5,11 +5,11 @@ use Rattle.gas.specs.declared.month.ClosingNumbers.{ClosingNumbers}
 use Rattle.history.specs.declared.lines.Line.{Line}
 use Rattle.history.specs.Calls.{State, most_lines}
 use Rattle.history.specs.Days.{Places}
-use Rattle.history.specs.Year.{Standing, unknown_year}
+use Rattle.history.specs.Year.{Complete, Standing, unknown_year}
 use Rattle.book.specs.declared.table.LineTable.{LineTable}
 use Rattle.book.specs.declared.year.MeterYear.{MeterYear}
 use Rattle.book.specs.Tables.{Kept, Near}
-use Rattle.book.specs.Years.{AllComplete, year_by}
+use Rattle.book.specs.Years.{year_by}
 
 -- what the meter told of the year with what closed its months, and the lines
 pub record Contents : Type 0 where
@@ -43,7 +43,7 @@ begun b leap = record b { year = record { leap = leap; days = unknown_year.days;
 -- near: under each heading that is brought to targets the lines add up to no more than a target can be, so that no sum runs over
 pub record Sound (y : MeterYear) (t : LineTable) : Type 0 where
   pub few : length y.closings ≤ 12
-  pub complete : AllComplete y
+  pub complete : Complete y.leap y.days y.closings
   pub kept : Kept t
   pub room : length t.lines.items ≤ most_lines
   pub near : Near t.lines.items

@@ -60,8 +60,8 @@ abbrev pub open_months : Year → List ℕ
 open_months y = range_with_len (length y.closings) (12 - length y.closings)
 
 -- each closed month has all of its days
-abbrev pub Complete : Year → Type 0
-Complete y = (month : ℕ) → month < length y.closings → is_complete y.leap y.days month ≡ true
+abbrev pub Complete : Bool → Places → List ClosingNumbers → Type 0
+Complete leap days closings = (month : ℕ) → month < length closings → is_complete leap days month ≡ true
 
 -- the interim months run from the first to the last
 abbrev pub is_interim : Opening → ℕ → Bool
