@@ -57,23 +57,23 @@ input_test ok f = (ok, fault.Input f)
 abbrev pub opened : Year → Bool × AccountFault
 opened y = (is_opened y.standing, fault.NotOpened)
 
--- the interim months, of which the first does not come after the last, the leap mark, and the increase
+-- the tests of an opening's numbers: of the interim months the last is 11 at most, and the first does not come after it; then the leap mark, and the increase
 abbrev pub opening_input : ℕ → Opening → Tests
 opening_input leap o =
     input_test (nat_le o.last last_month && nat_le o.first o.last) input.Month ∷ input_test (nat_le leap 1) input.Mark ∷
     input_test (nat_le o.increase whole) input.PerMille ∷ []
 
--- the final increase and the interest
+-- the test of a settlement's numbers: the final increase and the interest are each at most the whole
 abbrev pub settlement_input : Settlement → Bool × AccountFault
 settlement_input t = input_test (nat_le t.final_increase whole && nat_le t.interest whole) input.PerMille
 
--- a month, a day of it, and what the day was
+-- the tests of a day's numbers: a month, a day of it, and what the day was
 abbrev pub day_input : Bool → ℕ → ℕ → DayNumbers → Tests
 day_input leap month day n =
     input_test (nat_le month last_month) input.Month ∷ input_test (is_in_range 1 (month_length leap month) day) input.Day ∷
     map (λ t. input_test t.0 t.1) (tests_of_day n)
 
--- and last whether it is posted, or is not
+-- the tests of a posting or a correction, of which the last is whether the day is posted or is not
 abbrev pub day_tests : Year → ℕ → ℕ → DayNumbers → Bool × AccountFault → Tests
 day_tests y month day n stored = opened y ∷ push (day_input y.leap month day n) stored
 
