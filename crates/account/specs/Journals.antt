@@ -47,7 +47,7 @@ abbrev pub history_after : Tariff → History → State → List Placed → Hist
 history_after s h a [] = h
 history_after s h a (p ∷ ps) = history_after s (entry_of s a p.«record» ∷ h) (left_by s (call_of p.«record») a) ps
 
--- the account after them
+-- the account after records that were played one after another
 abbrev pub account_after : Tariff → State → List Placed → State
 account_after s a [] = a
 account_after s a (p ∷ ps) = account_after s (left_by s (call_of p.«record») a) ps
