@@ -1,10 +1,9 @@
 -- What the loop that plays a journal keeps from record to record.
 use Rattle.std.proofs.Common.{◌≡◌, ℕ, ◌+◌, ◌*◌, ◌/◌, ◌<◌, ◌≤◌, List, [], ◌∷◌, ◌++◌, length, Some, None, Ok, Err, Option, Result, refl, sym, ap, ◌∙◌, subst, append_assoc, append-nil, arith}
-use Rattle.std.specs.Result.{result_err}
 use Rattle.history.specs.declared.faults.AccountFault.{AccountFault}
-use Rattle.history.specs.Calls.{State, outcome}
+use Rattle.history.specs.Calls.{State}
 use Rattle.history.specs.Prices.{Tariff}
-use Rattle.history.specs.Runs.{History, Run}
+use Rattle.history.specs.Runs.{History, Run, left_by, refusal_by}
 use Rattle.history.proofs.Law.{runs_add_up}
 use Rattle.journal.specs.declared.faults.ReadFault.{ReadFault}
 use Rattle.journal.specs.declared.kinds.Placed.{Placed}
@@ -14,7 +13,7 @@ use Rattle.journal.specs.Format.{record_length}
 use Rattle.journal.specs.Reading.{Gives, after, answer, behind}
 use Rattle.account.specs.declared.faults.JournalFault.{JournalFault}
 use Rattle.account.specs.declared.faults.Refusal.{Refusal}
-use Rattle.account.specs.Journals.{account_after, call_of, entered_at, entry_of, history_after, left_by, read_at, refusals_of, refused_at, unread_at}
+use Rattle.account.specs.Journals.{account_after, call_of, entered_at, entry_of, history_after, read_at, refusals_of, refused_at, unread_at}
 use Rattle.account.specs.Playing.{Played}
 
 -- no record is shorter than 5 bytes
@@ -29,7 +28,7 @@ five_at_least (Settle final interest) = omega arith
 -- the account after records goes on by their history
 runs_on : (s : Tariff) (h : History) (a : State) (ps : List Placed) → Run s h a → Run s (history_after s h a ps) (account_after s a ps)
 runs_on s h a [] run = run
-runs_on s h a (p ∷ ps) run = runs_on s (entry_of s a p.«record» ∷ h) (left_by s a p.«record») ps (a, run, (refl, refl))
+runs_on s h a (p ∷ ps) run = runs_on s (entry_of s a p.«record» ∷ h) (left_by s (call_of p.«record») a) ps (a, run, (refl, refl))
 
 -- with all that a reader gives the journal is played
 whole : (s : Tariff) (bs : List ℕ) (a : State) (ps : List Placed) (end : Option ReadFault) → Gives bs 0 ps end → Played s bs a (account_after s a ps) (refusals_of s 1 0 a ps end)
@@ -97,9 +96,9 @@ module _ {s : Tariff} {bs rs : List ℕ} {before a : State} {refusals : List Ref
       let was = was_unread i (answer rs i) fault e in
       rw (is, this, was.2 k) (t.rest [] (Some was.0) was.1)
 
-  module _ {rs' : List ℕ} {a' : State} {all : List Refusal} {n' room' j l : ℕ} (p : Placed) (read : Ok (Some p) ≡ read_at i (answer rs i)) (same : rs' ≡ rs) (on : j ≡ after rs i) (left : a' ≡ left_by s a p.«record») (next : l ≡ k + 1) where
+  module _ {rs' : List ℕ} {a' : State} {all : List Refusal} {n' room' j l : ℕ} (p : Placed) (read : Ok (Some p) ≡ read_at i (answer rs i)) (same : rs' ≡ rs) (on : j ≡ after rs i) (left : a' ≡ left_by s (call_of p.«record») a) (next : l ≡ k + 1) where
     -- one record more, with its refusals
-    on_by : (more : List Refusal) → refused_at k p.place (result_err (outcome s (call_of p.«record») a)) ≡ more → all ≡ refusals ++ more → n' ≤ n + 1 → room ≤ room' → Sofar s bs rs' before a' all n' room' j l
+    on_by : (more : List Refusal) → refused_at k p.place (refusal_by s (call_of p.«record») a) ≡ more → all ≡ refusals ++ more → n' ≤ n + 1 → room ≤ room' → Sofar s bs rs' before a' all n' room' j l
     on_by more of is one_more as_much =
         let e : answer rs i ≡ Ok (Some p) = was_read i (answer rs i) (Some p) read in
         let behind_it : j ≡ i + record_length p.«record» = on ∙ ap (behind i) e in
@@ -110,16 +109,16 @@ module _ {s : Tariff} {bs rs : List ℕ} {before a : State} {refusals : List Ref
           enough = omega (arith, t.enough);
           rest = λ ps end h.
               let given = subst (λ (m : ℕ). Gives rs m ps end) on (subst (λ (b : List ℕ). Gives b j ps end) same h) in
-              let goes_on = refusals_of s (k + 1) (i + record_length p.«record») (left_by s a p.«record») ps end in
-              rw (is, left, next, behind_it) (subst (Played s bs before (account_after s (left_by s a p.«record») ps)) (joined goes_on) (t.rest (p ∷ ps) end (e, given)));
+              let goes_on = refusals_of s (k + 1) (i + record_length p.«record») (left_by s (call_of p.«record») a) ps end in
+              rw (is, left, next, behind_it) (subst (Played s bs before (account_after s (left_by s (call_of p.«record») a) ps)) (joined goes_on) (t.rest (p ∷ ps) end (e, given)));
         }
       where
-        joined : (l : List Refusal) → refusals ++ (refused_at k p.place (result_err (outcome s (call_of p.«record») a)) ++ l) ≡ (refusals ++ more) ++ l
+        joined : (l : List Refusal) → refusals ++ (refused_at k p.place (refusal_by s (call_of p.«record») a) ++ l) ≡ (refusals ++ more) ++ l
         joined l = rw of (sym (append_assoc refusals more l))
 
-    pub accepted_on : {u : Unit {0}} → Ok u ≡ entered_at p.place (result_err (outcome s (call_of p.«record») a)) → all ≡ refusals → n' ≡ n → room ≤ room' → Sofar s bs rs' before a' all n' room' j l
+    pub accepted_on : {u : Unit {0}} → Ok u ≡ entered_at p.place (refusal_by s (call_of p.«record») a) → all ≡ refusals → n' ≡ n → room ≤ room' → Sofar s bs rs' before a' all n' room' j l
     accepted_on answered is none as_much = on_by [] (was_entered k p.place _ _ answered) (is ∙ sym (append-nil refusals)) (omega arith) as_much
 
-    pub refused_on : {number : ℕ} {fault : JournalFault} → Err fault ≡ entered_at p.place (result_err (outcome s (call_of p.«record») a)) → number ≡ k → all ≡ refusals ++ record { number = number; fault = fault } ∷ [] → n' ≡ n + 1 → room ≤ room' → Sofar s bs rs' before a' all n' room' j l
+    pub refused_on : {number : ℕ} {fault : JournalFault} → Err fault ≡ entered_at p.place (refusal_by s (call_of p.«record») a) → number ≡ k → all ≡ refusals ++ record { number = number; fault = fault } ∷ [] → n' ≡ n + 1 → room ≤ room' → Sofar s bs rs' before a' all n' room' j l
     refused_on {number} {fault} answered this is one_more as_much =
         on_by (record { number = number; fault = fault } ∷ []) (rw this (was_refused k p.place _ fault answered)) is (omega arith) as_much

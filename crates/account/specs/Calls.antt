@@ -13,7 +13,7 @@ use Rattle.account.specs.Holdings.{Holding}
 
 -- step: on the tariff of the account's schedule, the answer and what the account then knows and has written are those of the call's outcome
 -- schedule: it stays
--- refused: a refused call leaves the whole account as it was
+-- refused: a refused call leaves the whole account as it was; this follows from the two before, as an account has no other part
 pub record Called {S : Type 0} (unauthorized : S → DayRecord → ℕ) (price : S → MonthFacts → Item → Answer) (a : Holding S) (c : Call) (answer : Result (Unit {0}) AccountFault) (b : Holding S) : Type 0 where
   pub step : Step (tariff_by (unauthorized a.schedule) (price a.schedule)) a.state (record { call = c; refusal = result_err answer }) b.state
   pub schedule : b.schedule ≡ a.schedule

@@ -1,11 +1,11 @@
 -- What the records of a journal make of an account.
 use Rattle.std.specs.Prelude.{ℕ, ◌+◌, List, [], ◌∷◌, ◌++◌, Some, None, Ok, Err, Option, Result}
-use Rattle.std.specs.Result.{result_err, result_unwrap_or}
+use Rattle.std.specs.Result.{result_map_both}
 use Rattle.gas.specs.declared.day.DayNumbers.{DayNumbers}
 use Rattle.history.specs.declared.faults.AccountFault.{AccountFault}
-use Rattle.history.specs.Calls.{Call, State, closing, correction, opening, outcome, payment, posting, settling}
+use Rattle.history.specs.Calls.{Call, State, closing, correction, opening, payment, posting, settling}
 use Rattle.history.specs.Prices.{Tariff}
-use Rattle.history.specs.Runs.{Entry, History}
+use Rattle.history.specs.Runs.{Entry, History, left_by, refusal_by}
 use Rattle.journal.specs.declared.faults.ReadFault.{ReadFault}
 use Rattle.journal.specs.declared.kinds.Day.{Day}
 use Rattle.journal.specs.declared.kinds.Placed.{Placed}
@@ -38,29 +38,23 @@ call_of (Close month index interruptible firm) = closing month (record { index =
 call_of (Pay amount) = payment amount
 call_of (Settle final interest) = settling (record { final_increase = final; interest = interest })
 
--- what an account answers to a record, its entry in the history, and the account that it leaves
-abbrev pub refusal_of : Tariff → State → Record → Option AccountFault
-refusal_of s a r = result_err (outcome s (call_of r) a)
-
+-- the entry of a record in the history: its call, and whether it was refused
 abbrev pub entry_of : Tariff → State → Record → Entry
-entry_of s a r = record { call = call_of r; refusal = refusal_of s a r }
+entry_of s a r = record { call = call_of r; refusal = refusal_by s (call_of r) a }
 
-abbrev pub left_by : Tariff → State → Record → State
-left_by s a r = result_unwrap_or (outcome s (call_of r) a) a
-
--- the history of an account, and the account, after records that were played one after another
+-- the history of an account after records that were played one after another, each on what the one before had left
 abbrev pub history_after : Tariff → History → State → List Placed → History
 history_after s h a [] = h
-history_after s h a (p ∷ ps) = history_after s (entry_of s a p.«record» ∷ h) (left_by s a p.«record») ps
+history_after s h a (p ∷ ps) = history_after s (entry_of s a p.«record» ∷ h) (left_by s (call_of p.«record») a) ps
 
+-- the account after records that were played one after another
 abbrev pub account_after : Tariff → State → List Placed → State
 account_after s a [] = a
-account_after s a (p ∷ ps) = account_after s (left_by s a p.«record») ps
+account_after s a (p ∷ ps) = account_after s (left_by s (call_of p.«record») a) ps
 
 -- what a reader at a place answers, a refusal with the place
 abbrev pub read_at : ℕ → Result (Option Placed) ReadFault → Result (Option Placed) JournalFault
-read_at place (Ok next) = Ok next
-read_at place (Err f) = Err (Unread place f)
+read_at place r = result_map_both (λ next. next) (Unread place) r
 
 -- what is answered of a record at a place, by its refusal if it was refused
 abbrev pub entered_at : ℕ → Option AccountFault → Result (Unit {0}) JournalFault
@@ -77,8 +71,8 @@ abbrev pub unread_at : ℕ → ℕ → Option ReadFault → List Refusal
 unread_at k place None = []
 unread_at k place (Some f) = record { number = k; fault = Unread place f } ∷ []
 
--- what was refused of records of which the first, record k, stands at a place, in order
+-- the refusals, in order, of records from number k on; place is where the reader stands, for the refusal at which reading stops
 abbrev pub refusals_of : Tariff → ℕ → ℕ → State → List Placed → Option ReadFault → List Refusal
 refusals_of s k place a [] end = unread_at k place end
 refusals_of s k place a (p ∷ ps) end =
-    refused_at k p.place (refusal_of s a p.«record») ++ refusals_of s (k + 1) (place + record_length p.«record») (left_by s a p.«record») ps end
+    refused_at k p.place (refusal_by s (call_of p.«record») a) ++ refusals_of s (k + 1) (place + record_length p.«record») (left_by s (call_of p.«record») a) ps end

@@ -12,8 +12,8 @@ use Rattle.account.specs.Journals.{account_after, history_after, refusals_of}
 -- records, end: what a reader gives from the journal's first byte on, and how it stops
 -- account: each record was played in order, on what the one before had left
 -- refused: just the refused ones are answered, and last the one that could not be read
--- run: with these records, each with its answer, the account after goes on from every history of the account before
--- adds_up: by all these histories, the lines of the account after and its open therms add up as the law says
+-- run: with these records, each with its answer, the account after goes on from every history of the account before; this follows from account
+-- adds_up: by all these histories, the lines of the account after and its open therms add up as the law says; this follows from run
 pub record Played (s : Tariff) (bytes : List ℕ) (a b : State) (refusals : List Refusal) : Type 0 where
   pub records : List Placed
   pub end : Option ReadFault

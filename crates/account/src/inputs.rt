@@ -12,7 +12,7 @@ use history::AccountFault;
 
 // The first and the last interim month; refused where one is above 11, or the first comes after the last.
 fn interim_months(first: u8, last: u8) -> Result<(Month, Month), InputFault>
-    ensures { read {B = ℕ × ℕ} (λ months. (months.0.number, months.1.number)) result ≡ unless (nat_le first last_month && (nat_le last last_month && nat_le first last)) faults.Month (first, last) }
+    ensures { read {B = ℕ × ℕ} (λ months. (months.0.number, months.1.number)) result ≡ unless (nat_le last last_month && nat_le first last) faults.Month (first, last) }
 {
     if first > last {
         return Err(InputFault::Month);

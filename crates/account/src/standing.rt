@@ -4,24 +4,18 @@ ghost use Rattle.gas.specs.Inputs.{read};
 ghost use Rattle.book.specs.Terms.{standing_of};
 
 use book::{OpeningTerms, SettlementTerms, Terms};
-use gas::{Month, PerMille};
 use history::AccountFault;
 
-// With the numbers that the opening and the settlement said, each in the struct round a number that keeps its limit: a variant has no ghost fields.
+// With the terms of the opening and of the settlement, of which each number stands in the struct that keeps its limit: a variant has no ghost fields.
 #[derive(Clone, Copy)]
 pub enum Standing {
     NotOpened,
     Running {
-        increase: PerMille,
-        first: Month,
-        last: Month,
+        opening: OpeningTerms,
     },
     Settled {
-        increase: PerMille,
-        first: Month,
-        last: Month,
-        final_increase: PerMille,
-        interest: PerMille,
+        opening: OpeningTerms,
+        settlement: SettlementTerms,
     },
 }
 
@@ -34,34 +28,16 @@ impl Standing {
     {
         match self {
             Standing::NotOpened => Err(AccountFault::NotOpened),
-            Standing::Running {
-                increase,
-                first,
-                last,
-            } => Ok(Terms {
-                opening: OpeningTerms {
-                    increase,
-                    first,
-                    last,
-                },
+            Standing::Running { opening } => Ok(Terms {
+                opening,
                 settlement: None,
             }),
             Standing::Settled {
-                increase,
-                first,
-                last,
-                final_increase,
-                interest,
+                opening,
+                settlement,
             } => Ok(Terms {
-                opening: OpeningTerms {
-                    increase,
-                    first,
-                    last,
-                },
-                settlement: Some(SettlementTerms {
-                    final_increase,
-                    interest,
-                }),
+                opening,
+                settlement: Some(settlement),
             }),
         }
     }

@@ -1,14 +1,15 @@
 -- What a book holds, and what is true of every book.
-use Rattle.std.specs.Prelude.{◌≤◌, Bool, List, [], ◌∷◌, ◌++◌, length}
+use Rattle.std.specs.Prelude.{◌≤◌, Bool, List, [], length}
+use Rattle.std.specs.List.{push}
 use Rattle.gas.specs.declared.month.ClosingNumbers.{ClosingNumbers}
 use Rattle.history.specs.declared.lines.Line.{Line}
 use Rattle.history.specs.Calls.{State, most_lines}
 use Rattle.history.specs.Days.{Places}
-use Rattle.history.specs.Year.{Standing, unknown_year}
+use Rattle.history.specs.Year.{Complete, Standing, unknown_year}
 use Rattle.book.specs.declared.table.LineTable.{LineTable}
 use Rattle.book.specs.declared.year.MeterYear.{MeterYear}
 use Rattle.book.specs.Tables.{Kept, Near}
-use Rattle.book.specs.Years.{AllComplete, year_by}
+use Rattle.book.specs.Years.{year_by}
 
 -- what the meter told of the year with what closed its months, and the lines
 pub record Contents : Type 0 where
@@ -19,20 +20,21 @@ pub record Contents : Type 0 where
 abbrev pub state_of : Standing → Contents → State
 state_of standing b = record { year = year_by standing b.year; lines = b.lines }
 
--- a book with other days, and with other closings
+-- a book with other days
 abbrev pub with_days : Contents → Places → Contents
-with_days b days = record { year = record { leap = b.year.leap; days = days; closings = b.year.closings }; lines = b.lines }
+with_days b days = record b { year = record b.year { days = days } }
 
+-- a book with other closings
 abbrev pub with_closings : Contents → List ClosingNumbers → Contents
-with_closings b closings = record { year = record { leap = b.year.leap; days = b.year.days; closings = closings }; lines = b.lines }
+with_closings b closings = record b { year = record b.year { closings = closings } }
 
 -- a book with one line more
 abbrev pub with_line : Contents → Line → Contents
-with_line b line = record { year = b.year; lines = b.lines ++ line ∷ [] }
+with_line b line = record b { lines = push b.lines line }
 
 -- a book whose year begins
 abbrev pub begun : Contents → Bool → Contents
-begun b leap = record { year = record { leap = leap; days = unknown_year.days; closings = [] }; lines = b.lines }
+begun b leap = record b { year = record { leap = leap; days = unknown_year.days; closings = [] } }
 
 -- few: the closed months, which run from November on, are at most twelve
 -- complete: all their days are posted; each is lawful, as every day record is
@@ -41,7 +43,7 @@ begun b leap = record { year = record { leap = leap; days = unknown_year.days; c
 -- near: under each heading that is brought to targets the lines add up to no more than a target can be, so that no sum runs over
 pub record Sound (y : MeterYear) (t : LineTable) : Type 0 where
   pub few : length y.closings ≤ 12
-  pub complete : AllComplete y
+  pub complete : Complete y.leap y.days y.closings
   pub kept : Kept t
   pub room : length t.lines.items ≤ most_lines
   pub near : Near t.lines.items

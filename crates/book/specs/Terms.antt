@@ -5,16 +5,19 @@ use Rattle.book.specs.declared.terms.OpeningTerms.{OpeningTerms}
 use Rattle.book.specs.declared.terms.SettlementTerms.{SettlementTerms}
 use Rattle.book.specs.declared.terms.Terms.{Terms}
 
+-- an opening's numbers, of which the terms keep the limits
 abbrev pub opening_numbers : OpeningTerms → Opening
 opening_numbers o = record { increase = o.increase.share; first = o.first.number; last = o.last.number }
 
+-- a settlement's numbers, likewise
 abbrev pub settlement_numbers : SettlementTerms → Settlement
 settlement_numbers t = record { final_increase = t.final_increase.share; interest = t.interest.share }
 
--- the standing of an account that was opened
+-- the standing of an account that was opened, and settled if there is a settlement
 abbrev pub standing_by : Opening → Option SettlementTerms → Standing
 standing_by o None = running o
 standing_by o (Some t) = settled o (settlement_numbers t)
 
+-- the standing by the terms that an account keeps
 abbrev pub standing_of : Terms → Standing
 standing_of t = standing_by (opening_numbers t.opening) t.settlement

@@ -1,5 +1,6 @@
 // The day of a posting or a correction, with the place where it belongs.
-ghost use Rattle.std.specs.Prelude.{◌≡◌, ◌&&◌, IfOk, Ok, nat_le};
+ghost use Rattle.std.specs.Prelude.{◌≡◌, IfOk, Ok};
+ghost use Rattle.std.specs.Int.{is_in_range};
 ghost use Rattle.std.specs.Result.{result_err};
 ghost use Rattle.gas.specs.Calendar.{month_length};
 ghost use Rattle.gas.specs.Inputs.{first_failing};
@@ -19,7 +20,7 @@ pub struct DatedDay {
 
 // Whether a month has a day of that number, counted from 1.
 fn has_day(month: Month, leap: bool, day: u8) -> bool
-    ensures { result ≡ (nat_le 1 day && nat_le day (month_length leap month.number)) }
+    ensures { result ≡ is_in_range 1 (month_length leap month.number) day }
 {
     (1..=month.length(leap)).contains(&day)
 }

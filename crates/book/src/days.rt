@@ -1,8 +1,6 @@
 // The table of a year's days, and the posted days of a month.
 ghost use Rattle.std.specs.Prelude.{◌≡◌, ◌<◌, ◌≤◌, length, replicate, Some, None, slice_index_or, slice_set};
-ghost use Rattle.std.specs.Option.{option_to_list};
-ghost use Rattle.std.specs.List.{flat_map};
-ghost use Rattle.history.specs.Days.{month_places};
+ghost use Rattle.history.specs.Days.{month_places, posted_in};
 ghost use Rattle.book.specs.Days.{exchanged};
 
 use crate::places::{Place, places_of};
@@ -82,7 +80,7 @@ impl DayTable {
 // Those of some places that have a record. A loop over the places: a `flatten` of them would want lemmas of its own. The bound of 31 stands here and not in a type, since a month's places are passed on at once.
 pub fn posted(places: &[Option<DayRecord>]) -> MonthDays
     requires { length places.now ≤ 31 }
-    ensures { result.items ≡ flat_map option_to_list places.now }
+    ensures { result.items ≡ posted_in places.now }
 {
     let mut days = MonthDays::new();
     for place in places {

@@ -1,17 +1,17 @@
 // The gas year's first unauthorized day.
 ghost use Rattle.std.specs.Prelude.{◌≡◌};
-ghost use Rattle.history.specs.Days.{day_of_first, place_of_first, nothing_unauthorized};
+ghost use Rattle.history.specs.Days.{day_of_first, place_of_first, is_unauthorized};
 
 use crate::places::places_of;
 use gas::{DayRecord, Month, Schedule};
 
-// Whether nothing unauthorized stands at a place.
-fn is_authorized<S: Schedule>(schedule: &S, place: &Option<DayRecord>) -> bool
-    ensures { result ≡ nothing_unauthorized (S.unauthorized schedule.now) place.now }
+// Whether a day with unauthorized therms stands at a place.
+fn is_unauthorized<S: Schedule>(schedule: &S, place: &Option<DayRecord>) -> bool
+    ensures { result ≡ is_unauthorized (S.unauthorized schedule.now) place.now }
 {
     place
         .as_ref()
-        .is_none_or(|day| schedule.unauthorized(day).count == 0)
+        .is_some_and(|day| schedule.unauthorized(day).count > 0)
 }
 
 // The place of the first unauthorized day by date, if there is one.
@@ -20,7 +20,7 @@ pub fn first_place<S: Schedule>(schedule: &S, places: &[Option<DayRecord>]) -> O
 {
     places
         .iter()
-        .position(|place| !is_authorized(schedule, place))
+        .position(|place| is_unauthorized(schedule, place))
 }
 
 // The number, in a month, of the year's first unauthorized day, if it is a day of that month.

@@ -1,5 +1,6 @@
 // The line of a payment.
-ghost use Rattle.std.specs.Prelude.{◌≡◌, ◌&&◌, nat_le, neg_ℤ, pos};
+ghost use Rattle.std.specs.Prelude.{◌≡◌, neg_ℤ, pos};
+ghost use Rattle.std.specs.Int.{is_in_range};
 ghost use Rattle.gas.specs.Inputs.{unless};
 ghost use Rattle.history.specs.declared.faults.AccountFault.TheVariants as faults;
 ghost use Rattle.history.specs.declared.lines.Heading.TheVariants as headings;
@@ -14,7 +15,7 @@ const MOST_PAID: u64 = 10_000_000_000_000;
 
 // Takes off what is paid; refused are a payment of nothing and one above 10^13.
 pub fn payment_line(amount: u64) -> Result<Line, AccountFault>
-    ensures { result ≡ unless (nat_le 1 amount && nat_le amount most_paid) faults.Payment (line_of headings.Payment (pos 0) (neg_ℤ (pos amount))) }
+    ensures { result ≡ unless (is_in_range 1 most_paid amount) faults.Payment (line_of headings.Payment (pos 0) (neg_ℤ (pos amount))) }
 {
     if !(1..=MOST_PAID).contains(&amount) {
         return Err(AccountFault::Payment);

@@ -1,7 +1,7 @@
 // The places of a gas year's days: 31 for each month, in the order of dates.
-ghost use Rattle.std.specs.Prelude.{◌≡◌, ◌+◌, ◌*◌, ◌<◌, ◌≤◌};
+ghost use Rattle.std.specs.Prelude.{◌≡◌, ◌+◌, ◌<◌, ◌≤◌};
 ghost use Rattle.gas.specs.Calendar.{month_length};
-ghost use Rattle.history.specs.Days.{place_of};
+ghost use Rattle.history.specs.Days.{month_place, place_of};
 
 use gas::Month;
 use std::ops::Range;
@@ -30,8 +30,8 @@ impl Place {
 
 // The places of a month's days. The leap mark, which is the year's, comes beside the month, which is a call's.
 pub fn places_of(month: Month, leap: bool) -> Range<usize>
-    ensures start { result.start ≡ 31 * month.number }
-    ensures end { result.end ≡ 31 * month.number + month_length leap month.number }
+    ensures start { result.start ≡ month_place month.number }
+    ensures end { result.end ≡ month_place month.number + month_length leap month.number }
 {
     let from = PLACES_A_MONTH * month.number as usize;
     from..from + month.length(leap) as usize

@@ -1,5 +1,8 @@
 -- The six calls of an account, and the one outcome of each.
-use Rattle.std.specs.Prelude.{ℕ, ◌+◌, Bool, if◌then◌else◌, not, ◌&&◌, List, [], ◌∷◌, ◌++◌, length, map, pos, neg_ℤ, is_some, Some, None, Ok, Err, Option, Result, ◌==◌, nat_le, nat_lt, slice_index_or, slice_set}
+use Rattle.std.specs.Prelude.{ℕ, ◌+◌, Bool, if◌then◌else◌, not, ◌&&◌, List, [], ◌∷◌, ◌++◌, length, map, pos, neg_ℤ, is_some, Some, None, Ok, Err, Result, ◌==◌, nat_le, nat_lt, slice_index_or, slice_set}
+use Rattle.std.specs.Int.{is_in_range}
+use Rattle.std.specs.List.{push}
+use Rattle.std.specs.Result.{result_map_both}
 use Rattle.gas.specs.declared.day.DayNumbers.{DayNumbers}
 use Rattle.gas.specs.declared.day.DayRecord.{DayRecord}
 use Rattle.gas.specs.declared.faults.InputFault.{InputFault}
@@ -17,7 +20,7 @@ use Rattle.history.specs.Days.{Places, is_complete, place_of}
 use Rattle.history.specs.Due.{due_in}
 use Rattle.history.specs.Headings.{line_of}
 use Rattle.history.specs.Prices.{Tariff}
-use Rattle.history.specs.Year.{Opening, Settlement, Standing, Year, is_opened, is_settled, not_opened, opening_of, running, settled, unknown_year}
+use Rattle.history.specs.Year.{Opening, Settlement, Year, is_opened, is_settled, opening_of, running, settled, unknown_year}
 
 -- a call with its numbers as they came, lawful or not
 pub data Call : Type 0 where
@@ -42,32 +45,35 @@ pub record State : Type 0 where
 abbrev pub Tests : Type 0
 Tests = List (Bool × AccountFault)
 
-abbrev pub lawful : Bool → InputFault → Bool × AccountFault
-lawful ok f = (ok, fault.Input f)
+-- a test of the input, with its refusal
+abbrev pub input_test : Bool → InputFault → Bool × AccountFault
+input_test ok f = (ok, fault.Input f)
 
+-- the test that an account is opened, with its refusal
 abbrev pub opened : Year → Bool × AccountFault
 opened y = (is_opened y.standing, fault.NotOpened)
 
--- the interim months, the leap mark, and the increase
+-- the tests of an opening's numbers: of the interim months the last is 11 at most, and the first does not come after it; then the leap mark, and the increase
 abbrev pub opening_input : ℕ → Opening → Tests
 opening_input leap o =
-    lawful (nat_le o.first last_month && (nat_le o.last last_month && nat_le o.first o.last)) input.Month ∷ lawful (nat_le leap 1) input.Mark ∷
-    lawful (nat_le o.increase most_per_mille) input.PerMille ∷ []
+    input_test (nat_le o.last last_month && nat_le o.first o.last) input.Month ∷ input_test (nat_le leap 1) input.Mark ∷
+    input_test (nat_le o.increase most_per_mille) input.PerMille ∷ []
 
--- the final increase and the interest
+-- the test of a settlement's numbers: the final increase and the interest are each at most the whole
 abbrev pub settlement_input : Settlement → Bool × AccountFault
-settlement_input t = lawful (nat_le t.final_increase most_per_mille && nat_le t.interest most_per_mille) input.PerMille
+settlement_input t = input_test (nat_le t.final_increase most_per_mille && nat_le t.interest most_per_mille) input.PerMille
 
--- a month, a day of it, and what the day was
+-- the tests of a day's numbers: a month, a day of it, and what the day was
 abbrev pub day_input : Bool → ℕ → ℕ → DayNumbers → Tests
 day_input leap month day n =
-    lawful (nat_le month last_month) input.Month ∷ lawful (nat_le 1 day && nat_le day (month_length leap month)) input.Day ∷
-    map (λ t. lawful t.0 t.1) (tests_of_day n)
+    input_test (nat_le month last_month) input.Month ∷ input_test (is_in_range 1 (month_length leap month) day) input.Day ∷
+    map (λ t. input_test t.0 t.1) (tests_of_day n)
 
--- and last whether it is posted, or is not
+-- the tests of a posting or a correction, of which the last is whether the day is posted or is not
 abbrev pub day_tests : Year → ℕ → ℕ → DayNumbers → Bool × AccountFault → Tests
-day_tests y month day n stored = opened y ∷ (day_input y.leap month day n ++ (stored ∷ []))
+day_tests y month day n stored = opened y ∷ push (day_input y.leap month day n) stored
 
+-- a record stands at the place of a day
 abbrev pub is_posted : Year → ℕ → ℕ → Bool
 is_posted y month day = is_some (slice_index_or y.days (place_of month day) None)
 
@@ -81,9 +87,9 @@ tests (opening leap o) y = (not (is_opened y.standing), fault.OpenedAlready) ∷
 tests (posting month day n) y = day_tests y month day n (not (is_posted y month day), fault.PostedAlready)
 tests (correction month day n) y = day_tests y month day n (is_posted y month day, fault.NotPosted)
 tests (closing month numbers) y =
-    opened y ∷ lawful (nat_le month last_month) input.Month ∷ lawful (is_lawful_closing numbers) input.Quantity ∷
+    opened y ∷ input_test (nat_le month last_month) input.Month ∷ input_test (is_lawful_closing numbers) input.Quantity ∷
     ((month == length y.closings), fault.NotEarliest) ∷ (is_complete y.leap y.days month, fault.LacksDay) ∷ []
-tests (payment amount) y = opened y ∷ (nat_le 1 amount && nat_le amount most_paid, fault.Payment) ∷ []
+tests (payment amount) y = opened y ∷ (is_in_range 1 most_paid amount, fault.Payment) ∷ []
 tests (settling t) y =
     opened y ∷ settlement_input t ∷ (not (is_settled y.standing), fault.SettledAlready) ∷ (nat_lt (opening_of y.standing).last (length y.closings), fault.InterimOpen) ∷ []
 
@@ -91,11 +97,6 @@ tests (settling t) y =
 abbrev pub stored : Result DayRecord InputFault → Places → ℕ → Places
 stored (Ok day) days place = slice_set days place (Some day)
 stored (Err e) days place = days
-
-abbrev pub settled_by : Settlement → Standing → Standing
-settled_by t not_opened = not_opened
-settled_by t (running o) = settled o t
-settled_by t (settled o old) = settled o old
 
 -- a year with the record of a day, posted or put in another's place
 abbrev pub with_day : Year → ℕ → ℕ → DayNumbers → Year
@@ -106,13 +107,13 @@ abbrev pub learned : Call → Year → Year
 learned (opening leap o) y = record unknown_year { standing = running o; leap = (leap == 1) }
 learned (posting month day n) y = with_day y month day n
 learned (correction month day n) y = with_day y month day n
-learned (closing month numbers) y = record y { closings = y.closings ++ (numbers ∷ []) }
+learned (closing month numbers) y = record y { closings = push y.closings numbers }
 learned (payment amount) y = y
-learned (settling t) y = record y { standing = settled_by t y.standing }
+learned (settling t) y = record y { standing = settled (opening_of y.standing) t }
 
+-- the fault of a price, as the account's refusal
 abbrev pub by_account : {A : Type 0} → Result A ScheduleFault → Result A AccountFault
-by_account (Ok a) = Ok a
-by_account (Err e) = Err (fault.Schedule e)
+by_account r = result_map_both (λ a. a) fault.Schedule r
 
 -- the lines that a call writes in the year as known after it, or the fault of a price
 abbrev pub written : Tariff → Call → Year → List Line → Result (List Line) AccountFault
@@ -127,6 +128,7 @@ written s (settling t) y lines = by_account (due_in s y lines)
 abbrev pub most_lines : ℕ
 most_lines = 1024
 
+-- the account with some lines more; refused by the fault of a price, else where there is no room for all of them
 abbrev pub with_lines : Year → List Line → Result (List Line) AccountFault → Result State AccountFault
 with_lines y lines (Ok more) = if nat_le (length lines + length more) most_lines then Ok (record { year = y; lines = lines ++ more }) else Err fault.NoRoom
 with_lines y lines (Err e) = Err e

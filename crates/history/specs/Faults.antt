@@ -20,5 +20,6 @@ account_values (Schedule fault) = let v : ℕ × ℕ × ℕ × ℕ = schedule_va
 account_values NoRoom = (29, [])
 account_values NoLine = (30, [])
 
+-- the number of a refusal alone
 abbrev pub account_number : AccountFault → ℕ
 account_number f = (account_values f).0

@@ -2,7 +2,7 @@
 -- Words:
 -- a history, the calls so far with their answers, the newest first
 -- a run, what a new account has become by a history
-use Rattle.std.specs.Prelude.{◌≡◌, ℕ, ◌<◌, if◌then◌else◌, List, [], ◌∷◌, length, ℤ, pos, ◌+ℤ◌, Some, None, Ok, Option, ◌==◌}
+use Rattle.std.specs.Prelude.{◌≡◌, ℕ, ◌<◌, if◌then◌else◌, List, [], ◌∷◌, length, ℤ, ◌+ℤ◌, Ok, Option, ◌==◌, is_some}
 use Rattle.std.specs.Int.{int_min}
 use Rattle.std.specs.Result.{result_err, result_unwrap_or}
 use Rattle.gas.specs.declared.items.Item.{Item}
@@ -12,9 +12,8 @@ use Rattle.history.specs.declared.faults.AccountFault.{AccountFault}
 use Rattle.history.specs.declared.lines.Heading.TheVariants.{Priced, Refund}
 use Rattle.history.specs.declared.lines.Line.{Line}
 use Rattle.history.specs.Calls.{Call, State, learned, outcome}
-use Rattle.history.specs.Headings.{heading_item, heading_month, money_on, sum_under, therms_on}
+use Rattle.history.specs.Headings.{heading_item, heading_month, money_on, sum_under, sum_where, therms_on}
 use Rattle.history.specs.Prices.{Tariff, all_therms, final_price, interim_price, open_therms, price_of}
-use Rattle.history.specs.Sums.{sum_z}
 use Rattle.history.specs.Year.{Opening, Settlement, Year, is_interim, settled, unknown_year}
 
 -- a call and its answer: none if it was accepted, else the refusal
@@ -22,26 +21,30 @@ pub record Entry : Type 0 where
   pub call : Call
   pub refusal : Option AccountFault
 
+-- the calls so far with their answers, the newest first
 abbrev pub History : Type 0
 History = List Entry
 
--- a refused call tells nothing
-abbrev pub noted : Option AccountFault → Call → Year → Year
-noted None c y = learned c y
-noted (Some f) c y = y
-
--- the year as known from the calls alone
+-- the year as known from the calls alone; a refused one tells nothing
 abbrev pub known : History → Year
 known [] = unknown_year
-known (e ∷ h) = noted e.refusal e.call (known h)
+known (e ∷ h) = if is_some e.refusal then known h else learned e.call (known h)
 
 -- a new account knows nothing and has written nothing
 abbrev pub new_state : State
 new_state = record { year = unknown_year; lines = [] }
 
--- a call that found the account a, answered as the entry says and left b: the answer and b are those of its outcome, and a refused call leaves the account as it was
+-- the refusal of a call that finds an account, if it is refused
+abbrev pub refusal_by : Tariff → Call → State → Option AccountFault
+refusal_by s c a = result_err (outcome s c a)
+
+-- the account that a call leaves; a refused one leaves it as it was
+abbrev pub left_by : Tariff → Call → State → State
+left_by s c a = result_unwrap_or (outcome s c a) a
+
+-- a call that found the account a, answered as the entry says and left b: both are those of its outcome
 abbrev pub Step : Tariff → State → Entry → State → Type 0
-Step s a e b = (e.refusal ≡ result_err (outcome s e.call a)) × (b ≡ result_unwrap_or (outcome s e.call a) a)
+Step s a e b = (e.refusal ≡ refusal_by s e.call a) × (b ≡ left_by s e.call a)
 
 -- each call found what the one before left
 abbrev pub Run : Tariff → History → State → Type 0
@@ -50,11 +53,11 @@ Run s (e ∷ h) b = (a : State) × Run s h a × Step s a e b
 
 -- the therms of all monthly balancing lines
 abbrev pub balanced_therms : List Line → ℤ
-balanced_therms lines = sum_z (λ l. if heading_item l.heading == item_number MonthlyBalancing then therms_on l else pos 0) lines
+balanced_therms lines = sum_where (λ h. heading_item h == item_number MonthlyBalancing) therms_on lines
 
 -- the money of all lines of the interim months
 abbrev pub interim_lines : Opening → List Line → ℤ
-interim_lines o lines = sum_z (λ l. if is_interim o (heading_month l.heading) then money_on l else pos 0) lines
+interim_lines o lines = sum_where (λ h. is_interim o (heading_month h)) money_on lines
 
 -- months: the lines under an item of a closed month sum to the item's price, which is no fault
 -- therms: what all monthly balancing lines carry and what is open make up the net therms of all posted days

@@ -1,8 +1,9 @@
 -- The year as it is known from the calls that were accepted.
-use Rattle.std.specs.Prelude.{◌≡◌, ℕ, ◌+◌, ◌-◌, ◌<◌, min, Bool, true, false, ◌&&◌, List, [], length, replicate, None, nat_le}
-use Rattle.std.specs.List.{range_with_len}
+use Rattle.std.specs.Prelude.{◌≡◌, ℕ, ◌-◌, ◌<◌, Bool, true, false, List, [], length, replicate, None}
+use Rattle.std.specs.Int.{is_in_range}
+use Rattle.std.specs.List.{filter, range_with_len}
 use Rattle.gas.specs.declared.month.ClosingNumbers.{ClosingNumbers}
-use Rattle.history.specs.Days.{Places, is_complete}
+use Rattle.history.specs.Days.{Places, is_complete, month_place}
 
 -- what the opening says of the interim rate: the increase, per mille, and the first and the last interim month
 pub record Opening : Type 0 where
@@ -28,15 +29,17 @@ pub record Year : Type 0 where
   pub days : Places
   pub closings : List ClosingNumbers
 
--- at first nothing is known; there are 372 places for days
+-- at first nothing is known: the places of all twelve months are empty
 abbrev pub unknown_year : Year
-unknown_year = record { standing = not_opened; leap = false; days = replicate 372 None; closings = [] }
+unknown_year = record { standing = not_opened; leap = false; days = replicate (month_place 12) None; closings = [] }
 
+-- an account is opened once it is running or settled
 abbrev pub is_opened : Standing → Bool
 is_opened not_opened = false
 is_opened (running o) = true
 is_opened (settled o t) = true
 
+-- an account is settled once a settlement was accepted
 abbrev pub is_settled : Standing → Bool
 is_settled not_opened = false
 is_settled (running o) = false
@@ -48,24 +51,22 @@ opening_of not_opened = record { increase = 0; first = 0; last = 0 }
 opening_of (running o) = o
 opening_of (settled o t) = o
 
--- the months that are closed, those that are open, and all
+-- the months that are closed, which are the first ones of the year
 abbrev pub closed_months : Year → List ℕ
 closed_months y = range_with_len 0 (length y.closings)
 
+-- the months that are open
 abbrev pub open_months : Year → List ℕ
 open_months y = range_with_len (length y.closings) (12 - length y.closings)
 
-abbrev pub all_months : List ℕ
-all_months = range_with_len 0 12
-
 -- each closed month has all of its days
-abbrev pub Complete : Year → Type 0
-Complete y = (month : ℕ) → month < length y.closings → is_complete y.leap y.days month ≡ true
+abbrev pub Complete : Bool → Places → List ClosingNumbers → Type 0
+Complete leap days closings = (month : ℕ) → month < length closings → is_complete leap days month ≡ true
 
 -- the interim months run from the first to the last
 abbrev pub is_interim : Opening → ℕ → Bool
-is_interim o month = nat_le o.first month && nat_le month o.last
+is_interim o month = is_in_range o.first o.last month
 
 -- the interim months that are closed; once an account is settled, these are all of them
 abbrev pub closed_interim : Year → List ℕ
-closed_interim y = range_with_len (opening_of y.standing).first (min ((opening_of y.standing).last + 1) (length y.closings) - (opening_of y.standing).first)
+closed_interim y = filter (is_interim (opening_of y.standing)) (closed_months y)

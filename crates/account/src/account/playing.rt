@@ -1,9 +1,9 @@
 // A whole journal played into an account.
 ghost use Rattle.std.specs.Prelude.{◌≡◌, IfOk, OnErr, vec_items};
 ghost use Rattle.history.specs.Prices.{tariff_by};
-ghost use Rattle.history.specs.Runs.{RunsAddUp};
+ghost use Rattle.history.specs.Runs.{RunsAddUp, left_by, refusal_by};
 ghost use Rattle.journal.specs.Reading.{answer, after};
-ghost use Rattle.account.specs.Journals.{entered_at, left_by, read_at, refusal_of};
+ghost use Rattle.account.specs.Journals.{call_of, entered_at, read_at};
 ghost use Rattle.account.specs.Playing.{Played};
 
 use crate::account::Account;
@@ -28,8 +28,8 @@ fn next_record(reader: &mut Reader) -> Result<Option<Placed>, JournalFault>
 impl<S: Schedule> Account<S> {
     // Takes in a record of a journal with its place, which comes with a refusal. By this call and a reader a journal is played without a heap.
     pub fn enter_placed(&mut self, placed: &Placed) -> Result<(), JournalFault>
-        ensures answers { result ≡ entered_at placed.now.place (refusal_of (tariff_by (S.unauthorized self.old.schedule) (S.price self.old.schedule)) self.old.state placed.now.«record») }
-        ensures leaves { self.new.state ≡ left_by (tariff_by (S.unauthorized self.old.schedule) (S.price self.old.schedule)) self.old.state placed.now.«record» }
+        ensures answers { result ≡ entered_at placed.now.place (refusal_by (tariff_by (S.unauthorized self.old.schedule) (S.price self.old.schedule)) (call_of placed.now.«record») self.old.state) }
+        ensures leaves { self.new.state ≡ left_by (tariff_by (S.unauthorized self.old.schedule) (S.price self.old.schedule)) (call_of placed.now.«record») self.old.state }
         ensures schedule { self.new.schedule ≡ self.old.schedule }
         ensures unchanged { OnErr result (self.new ≡ self.old) }
     {

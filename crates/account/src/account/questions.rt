@@ -16,7 +16,7 @@ impl<S: Schedule> Account<S> {
         ensures is { result ≡ length self.now.state.lines }
         ensures room { length self.now.state.lines ≤ most_lines }
         ensures few { length self.now.state.year.closings ≤ 12 }
-        ensures complete { Complete self.now.state.year }
+        ensures complete { Complete self.now.state.year.leap self.now.state.year.days self.now.state.year.closings }
     {
         self.book.line_count()
     }
