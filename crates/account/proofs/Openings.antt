@@ -23,8 +23,8 @@ use Rattle.account.proofs.Answered.{accepted, fails, handed_on}
 -- a standing that is none of an account before its opening
 opened_of : (at : code.Standing) → (at ≡ code.TheVariants.NotOpened → ⊥) → is_opened (standing_now at) ≡ true
 opened_of code.TheVariants.NotOpened other = absurd (other refl)
-opened_of (code.TheVariants.Running o) other = refl
-opened_of (code.TheVariants.Settled o t) other = refl
+opened_of (code.TheVariants.Running i f l) other = refl
+opened_of (code.TheVariants.Settled i f l n t) other = refl
 
 module _ {S : Type 0} (unauthorized : S → DayRecord → ℕ) (price : S → MonthFacts → Item → Answer) (sch : S) (at : code.Standing) (b : Contents) (a : Holding S) (same : record { schedule = sch; state = state_of (standing_now at) b } ≡ a) (leap increase first last : ℕ) where
   pub opened_already : (at ≡ code.TheVariants.NotOpened → ⊥) → Called unauthorized price a (opening leap (record { increase = increase; first = first; last = last })) (Err fault.OpenedAlready) a

@@ -11,8 +11,9 @@ use Rattle.history.specs.Year as year
 -- the standing by the numbers of the opening and the settlement
 abbrev pub standing_now : Standing → year.Standing
 standing_now NotOpened = year.not_opened
-standing_now (Running opening) = year.running (opening_numbers opening)
-standing_now (Settled opening settlement) = year.settled (opening_numbers opening) (settlement_numbers settlement)
+standing_now (Running increase first last) = year.running (opening_numbers (record { increase = increase; first = first; last = last }))
+standing_now (Settled increase first last final_increase interest) =
+    year.settled (opening_numbers (record { increase = increase; first = first; last = last })) (settlement_numbers (record { final_increase = final_increase; interest = interest }))
 
 -- the standing of an account that was opened, or the refusal before
 abbrev pub if_opened : year.Standing → Result year.Standing AccountFault

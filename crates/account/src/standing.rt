@@ -4,18 +4,24 @@ ghost use Rattle.gas.specs.Inputs.{read};
 ghost use Rattle.book.specs.Terms.{standing_of};
 
 use book::{OpeningTerms, SettlementTerms, Terms};
+use gas::{Month, PerMille};
 use history::AccountFault;
 
-// With the terms of the opening and of the settlement, of which each number stands in the struct that keeps its limit: a variant has no ghost fields.
+// With the numbers that the opening and the settlement said, each in the struct round a number that keeps its limit: a variant has no ghost fields.
 #[derive(Clone, Copy)]
 pub enum Standing {
     NotOpened,
     Running {
-        opening: OpeningTerms,
+        increase: PerMille,
+        first: Month,
+        last: Month,
     },
     Settled {
-        opening: OpeningTerms,
-        settlement: SettlementTerms,
+        increase: PerMille,
+        first: Month,
+        last: Month,
+        final_increase: PerMille,
+        interest: PerMille,
     },
 }
 
@@ -28,16 +34,34 @@ impl Standing {
     {
         match self {
             Standing::NotOpened => Err(AccountFault::NotOpened),
-            Standing::Running { opening } => Ok(Terms {
-                opening,
+            Standing::Running {
+                increase,
+                first,
+                last,
+            } => Ok(Terms {
+                opening: OpeningTerms {
+                    increase,
+                    first,
+                    last,
+                },
                 settlement: None,
             }),
             Standing::Settled {
-                opening,
-                settlement,
+                increase,
+                first,
+                last,
+                final_increase,
+                interest,
             } => Ok(Terms {
-                opening,
-                settlement: Some(settlement),
+                opening: OpeningTerms {
+                    increase,
+                    first,
+                    last,
+                },
+                settlement: Some(SettlementTerms {
+                    final_increase,
+                    interest,
+                }),
             }),
         }
     }

@@ -7,6 +7,7 @@ ghost use Rattle.account.specs.Journals.{call_of, numbers_in};
 use crate::account::Account;
 use crate::inputs::{opening_terms, settlement_terms};
 use crate::standing::Standing;
+use book::OpeningTerms;
 use gas::{ClosingNumbers, DayNumbers, Schedule};
 use history::AccountFault;
 use journal::{Day, Record};
@@ -35,9 +36,18 @@ impl<S: Schedule> Account<S> {
         let Standing::NotOpened = self.standing else {
             return Err(AccountFault::OpenedAlready);
         };
-        let (leap, opening) = opening_terms(leap, increase, first, last)?;
+        let (leap, terms) = opening_terms(leap, increase, first, last)?;
+        let OpeningTerms {
+            increase,
+            first,
+            last,
+        } = terms;
         self.book.begin(leap);
-        self.standing = Standing::Running { opening };
+        self.standing = Standing::Running {
+            increase,
+            first,
+            last,
+        };
         Ok(())
     }
 
@@ -86,8 +96,11 @@ impl<S: Schedule> Account<S> {
         let opening = terms.opening;
         self.book.settle(&self.schedule, &opening, &settlement)?;
         self.standing = Standing::Settled {
-            opening,
-            settlement,
+            increase: opening.increase,
+            first: opening.first,
+            last: opening.last,
+            final_increase: settlement.final_increase,
+            interest: settlement.interest,
         };
         Ok(())
     }
