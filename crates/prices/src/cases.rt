@@ -1,6 +1,8 @@
 // The cases: months of days on schedules.
-ghost use Rattle.std.specs.Prelude.{◌≡◌, Ok, IfOk};
+ghost use Rattle.std.specs.Prelude.{◌≡◌, ◌++◌, Ok, IfOk, OnOk, string_bytes};
 ghost use Rattle.gas.specs.Facts.{checked_facts, facts_of};
+ghost use Rattle.prices.specs.Months.{Grows, PrintsAll, PrintsFull, PrintsMixed, PrintsSpring, PrintsStacked};
+ghost use Rattle.prices.specs.Cases.{dual_fuel_text, firm_and_tolerance_text, mixed_text, refusals_text, riders_on_riders_text, riders_text, seasons_text, stacks_text};
 
 use crate::days::Pattern;
 use crate::tables::{head, table};
@@ -77,35 +79,42 @@ fn lawful<'a>(
     Facts::new(numbers, days).ok().context(refusal)
 }
 
-// The classes on both pipelines.
-fn classes(text: &mut String, november: &Facts, may: &Facts) -> Result<(), fmt::Error> {
-    let upper = SmallDualFuel {
-        annual: Therms { count: 120_000 },
-    };
-    let firm = Class {
-        terms: FIRM,
+// Small dual fuel in its upper band.
+const UPPER: SmallDualFuel = SmallDualFuel {
+    annual: Therms { count: 120_000 },
+};
+
+// The dual fuel classes on Northern.
+fn dual_fuel(text: &mut String, november: &Facts, may: &Facts) -> Result<(), fmt::Error>
+    ensures { OnOk result (string_bytes text.new ≡ string_bytes text.old ++ dual_fuel_text (facts_of november.now) (facts_of may.now)) }
+{
+    let upper = Class {
+        terms: UPPER,
         pipeline: Northern,
     };
     table(text, 1, &small(), november)?;
     table(text, 2, &small(), may)?;
-    table(
-        text,
-        3,
-        &Class {
-            terms: upper,
-            pipeline: Northern,
-        },
-        november,
-    )?;
+    table(text, 3, &upper, november)?;
     table(text, 4, &large(), november)?;
     table(text, 5, &large(), may)?;
+    Ok(())
+}
+
+// The class with a base level, and the pipeline with tolerances.
+fn firm_and_tolerance(text: &mut String, november: &Facts, may: &Facts) -> Result<(), fmt::Error>
+    ensures { OnOk result (string_bytes text.new ≡ string_bytes text.old ++ firm_and_tolerance_text (facts_of november.now) (facts_of may.now)) }
+{
+    let firm = Class {
+        terms: FIRM,
+        pipeline: Northern,
+    };
     table(text, 6, &firm, november)?;
     table(text, 7, &firm, may)?;
     table(
         text,
         8,
         &Class {
-            terms: upper,
+            terms: UPPER,
             pipeline: TOLERANCE,
         },
         november,
@@ -118,65 +127,97 @@ fn classes(text: &mut String, november: &Facts, may: &Facts) -> Result<(), fmt::
             pipeline: TOLERANCE,
         },
         may,
-    )
+    )?;
+    Ok(())
 }
 
-// Each rider alone, and riders upon riders.
-fn riders(text: &mut String, november: &Facts, may: &Facts) -> Result<(), fmt::Error> {
-    let interim = Interim.on(small());
-    let franchise = FRANCHISE.on(small());
-    let affordability = AFFORDABILITY.on(small());
+// Each rider alone.
+fn riders(text: &mut String, november: &Facts, may: &Facts) -> Result<(), fmt::Error>
+    ensures { OnOk result (string_bytes text.new ≡ string_bytes text.old ++ riders_text (facts_of november.now) (facts_of may.now)) }
+{
     let weather = WEATHER.on(small());
-    let all_but_franchise = Interim.on(WEATHER.on(affordability));
-    table(text, 10, &interim, november)?;
-    table(text, 11, &franchise, november)?;
-    table(text, 12, &affordability, november)?;
+    table(text, 10, &Interim.on(small()), november)?;
+    table(text, 11, &FRANCHISE.on(small()), november)?;
+    table(text, 12, &AFFORDABILITY.on(small()), november)?;
     table(text, 13, &weather, november)?;
     table(text, 14, &weather, may)?;
-    table(text, 15, &FRANCHISE.on(interim), november)?;
+    Ok(())
+}
+
+// Riders upon riders of other kinds, and a franchise upon a franchise.
+fn riders_on_riders(text: &mut String, november: &Facts) -> Result<(), fmt::Error>
+    ensures { OnOk result (string_bytes text.new ≡ string_bytes text.old ++ riders_on_riders_text (facts_of november.now)) }
+{
+    let franchise = FRANCHISE.on(small());
+    let all_but_franchise = Interim.on(WEATHER.on(AFFORDABILITY.on(small())));
+    table(text, 15, &FRANCHISE.on(Interim.on(small())), november)?;
     table(text, 16, &Interim.on(franchise), november)?;
     table(text, 17, &SECOND_FRANCHISE.on(franchise), november)?;
-    table(text, 18, &FRANCHISE.on(all_but_franchise), november)
+    table(text, 18, &FRANCHISE.on(all_but_franchise), november)?;
+    Ok(())
 }
 
 // Amounts past their limit: at the class, at a rider, and at both.
-fn refusals(text: &mut String, critical: &Facts, normal: &Facts) -> Result<(), fmt::Error> {
+fn refusals(text: &mut String, critical: &Facts, normal: &Facts) -> Result<(), fmt::Error>
+    ensures { OnOk result (string_bytes text.new ≡ string_bytes text.old ++ refusals_text (facts_of critical.now) (facts_of normal.now)) }
+{
     let interim = Interim.on(DEAR_AFFORDABILITY.on(large()));
     table(text, 19, &FRANCHISE.on(large()), critical)?;
     table(text, 20, &interim, normal)?;
-    table(text, 21, &FRANCHISE.on(interim), critical)
+    table(text, 21, &FRANCHISE.on(interim), critical)?;
+    Ok(())
 }
 
 // The months at which Northern's rates change.
-fn seasons(text: &mut String, march: &Facts, april: &Facts) -> Result<(), fmt::Error> {
+fn seasons(text: &mut String, march: &Facts, april: &Facts) -> Result<(), fmt::Error>
+    ensures { OnOk result (string_bytes text.new ≡ string_bytes text.old ++ seasons_text (facts_of march.now) (facts_of april.now)) }
+{
     table(text, 22, &small(), march)?;
-    table(text, 23, &small(), april)
+    table(text, 23, &small(), april)?;
+    Ok(())
 }
 
 // Riders upon riders of their own kind, and a share of a sum below zero.
-fn stacks(text: &mut String, november: &Facts, idle: &Facts) -> Result<(), fmt::Error> {
+fn stacks(text: &mut String, november: &Facts, idle: &Facts) -> Result<(), fmt::Error>
+    ensures { OnOk result (string_bytes text.new ≡ string_bytes text.old ++ stacks_text (facts_of november.now) (facts_of idle.now)) }
+{
     let affordability = AFFORDABILITY.on(small());
     let interim = Interim.on(small());
     let weather = WEATHER.on(small());
     table(text, 24, &SECOND_AFFORDABILITY.on(affordability), november)?;
     table(text, 25, &Interim.on(interim), november)?;
     table(text, 26, &WEATHER.on(weather), november)?;
-    table(text, 27, &FRANCHISE.on(large()), idle)
+    table(text, 27, &FRANCHISE.on(large()), idle)?;
+    Ok(())
+}
+
+// The cases of November and May.
+fn november_and_may(text: &mut String, november: &Facts, may: &Facts) -> Result<(), fmt::Error>
+    ensures { OnOk result (string_bytes text.new ≡ string_bytes text.old ++ mixed_text (facts_of november.now) (facts_of may.now)) }
+{
+    dual_fuel(text, november, may)?;
+    firm_and_tolerance(text, november, may)?;
+    riders(text, november, may)?;
+    riders_on_riders(text, november)?;
+    Ok(())
 }
 
 // The mixed November and May. The facts borrow the days, so that each pair of months is made where its cases are printed.
-fn mixed_months(text: &mut String, heap: Global) -> anyhow::Result<()> {
+fn mixed_months(text: &mut String, heap: Global) -> anyhow::Result<()>
+    ensures { OnOk result (Grows PrintsMixed (string_bytes text.old) (string_bytes text.new)) }
+{
     let november = Pattern::Mixed { base: 1_000 }.days(heap, 30)?;
     let may = Pattern::Mixed { base: 900 }.days(heap, 31)?;
     let november = lawful(NOVEMBER, november.as_slice(), "November is not lawful")?;
     let may = lawful(MAY, may.as_slice(), "May is not lawful")?;
-    classes(text, &november, &may)?;
-    riders(text, &november, &may)?;
+    november_and_may(text, &november, &may)?;
     Ok(())
 }
 
 // The full December, once critical and once normal.
-fn full_months(text: &mut String, heap: Global) -> anyhow::Result<()> {
+fn full_months(text: &mut String, heap: Global) -> anyhow::Result<()>
+    ensures { OnOk result (Grows PrintsFull (string_bytes text.old) (string_bytes text.new)) }
+{
     let critical = Pattern::Full {
         kind: DayKind::Critical,
     }
@@ -200,7 +241,9 @@ fn full_months(text: &mut String, heap: Global) -> anyhow::Result<()> {
 }
 
 // March, and an April within the tolerance of a month.
-fn spring_months(text: &mut String, heap: Global) -> anyhow::Result<()> {
+fn spring_months(text: &mut String, heap: Global) -> anyhow::Result<()>
+    ensures { OnOk result (Grows PrintsSpring (string_bytes text.old) (string_bytes text.new)) }
+{
     let march = Pattern::Mixed { base: 1_000 }.days(heap, 31)?;
     let april = Pattern::Mixed { base: 930 }.days(heap, 30)?;
     let march = lawful(MARCH, march.as_slice(), "March is not lawful")?;
@@ -210,7 +253,9 @@ fn spring_months(text: &mut String, heap: Global) -> anyhow::Result<()> {
 }
 
 // November once more, and an idle December.
-fn stacked_months(text: &mut String, heap: Global) -> anyhow::Result<()> {
+fn stacked_months(text: &mut String, heap: Global) -> anyhow::Result<()>
+    ensures { OnOk result (Grows PrintsStacked (string_bytes text.old) (string_bytes text.new)) }
+{
     let november = Pattern::Mixed { base: 1_000 }.days(heap, 30)?;
     let idle = Pattern::Idle.days(heap, 31)?;
     let november = lawful(NOVEMBER, november.as_slice(), "November is not lawful")?;
@@ -220,7 +265,9 @@ fn stacked_months(text: &mut String, heap: Global) -> anyhow::Result<()> {
 }
 
 // Everything that the program prints.
-pub fn output(heap: Global) -> anyhow::Result<String> {
+pub fn output(heap: Global) -> anyhow::Result<String>
+    ensures { IfOk result (λ text. PrintsAll (string_bytes text)) }
+{
     let mut text = String::new(heap);
     head(&mut text)?;
     mixed_months(&mut text, heap)?;

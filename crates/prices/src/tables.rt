@@ -1,7 +1,7 @@
 // The rows of a month on a schedule.
 ghost use Rattle.std.specs.Prelude.{◌≡◌, ◌++◌, OnOk, codes, string_bytes};
 ghost use Rattle.gas.specs.Facts.{facts_of};
-ghost use Rattle.gas.specs.Items.{all_items};
+ghost use Rattle.prices.specs.Cases.{case_text};
 ghost use Rattle.prices.specs.Rows.{header, table_text};
 
 use crate::rows::Row;
@@ -39,13 +39,14 @@ fn rows<S: Schedule>(
 }
 
 // A row for each item of a month.
+#[tactic(auto, unfolding(crate::specs::Cases::case_text))]
 pub fn table<S: Schedule>(
     text: &mut String,
     case: u8,
     schedule: &S,
     facts: &Facts,
 ) -> Result<(), fmt::Error>
-    ensures { OnOk result (string_bytes text.new ≡ string_bytes text.old ++ table_text case (S.price schedule.now (facts_of facts.now)) all_items) }
+    ensures { OnOk result (string_bytes text.new ≡ string_bytes text.old ++ case_text case (S.price schedule.now) (facts_of facts.now)) }
 {
     rows(text, case, schedule, facts, &Item::ALL)
 }

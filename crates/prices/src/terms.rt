@@ -1,7 +1,8 @@
 // What the schedules of the cases are set up by.
 ghost use Rattle.std.specs.Prelude.{◌≡◌};
+ghost use Rattle.prices.specs.Cases.{large, small};
 
-use gas::{PerMille, Rate, Therms};
+use gas::{PerMille, Rate, Schedule, Therms};
 use pipelines::{MonthTerms, Northern, Tolerance};
 use riders::{Affordability, Franchise, GasYear, Weather};
 use tariff::{Class, FirmInterruptible, LargeDualFuel, SmallDualFuel};
@@ -46,8 +47,9 @@ pub const WEATHER: Weather = Weather {
 };
 
 // The class on which most riders are shown: small dual fuel on Northern.
+#[tactic(auto, unfolding(crate::specs::Cases::small))]
 pub fn small() -> Class<SmallDualFuel, Northern>
-    ensures { result.terms.annual.count ≡ 36500 }
+    ensures { ⟦<Class<SmallDualFuel, Northern> as Schedule>⟧.price result ≡ small }
 {
     Class {
         terms: SmallDualFuel {
@@ -57,7 +59,10 @@ pub fn small() -> Class<SmallDualFuel, Northern>
     }
 }
 
-pub fn large() -> Class<LargeDualFuel, Northern> {
+#[tactic(auto, unfolding(crate::specs::Cases::large))]
+pub fn large() -> Class<LargeDualFuel, Northern>
+    ensures { ⟦<Class<LargeDualFuel, Northern> as Schedule>⟧.price result ≡ large }
+{
     Class {
         terms: LargeDualFuel,
         pipeline: Northern,
