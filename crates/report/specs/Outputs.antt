@@ -12,7 +12,7 @@ abbrev pub PrintsPlayed : List ℕ → List ℕ → Type 0
 PrintsPlayed bytes text =
     (b : State) × (refusals : List Refusal) × Played fixed_tariff bytes new_state b refusals × (text ≡ played_text refusals b.lines)
 
--- nothing but `too long` where there was more than a journal may hold
+-- by the input, or none where it has more than 65,536 bytes: then the one row is `too long`
 abbrev pub Prints : Option (List ℕ) → List ℕ → Type 0
 Prints None text = text ≡ codes "too long\n"
 Prints (Some bytes) text = PrintsPlayed bytes text

@@ -11,7 +11,7 @@ use Rattle.history.specs.Questions.{sum_of_all}
 abbrev pub refusal_text : Refusal → List ℕ
 refusal_text r = codes "refused " ++ (decimal r.number ++ (codes " " ++ decimal (journal_values r.fault).0))
 
--- what the fields of a line's row are
+-- the names of the fields of a line's row
 abbrev pub header : List ℕ
 header = codes "no month item therms millicents"
 
@@ -25,12 +25,12 @@ line_text k l =
 abbrev pub sum_text : ℤ → List ℕ
 sum_text sum = codes "sum " ++ signed_decimal sum
 
--- a row to a refusal
+-- a row for each refusal, each ended by a newline
 abbrev pub refusals_text : List Refusal → List ℕ
 refusals_text [] = []
 refusals_text (r ∷ rs) = refusal_text r ++ (codes "\n" ++ refusals_text rs)
 
--- a row to a line, numbered from k
+-- a row for each line, numbered from k, each ended by a newline
 abbrev pub lines_text : ℕ → List Line → List ℕ
 lines_text k [] = []
 lines_text k (l ∷ ls) = line_text k l ++ (codes "\n" ++ lines_text (k + 1) ls)
