@@ -1,6 +1,6 @@
 -- The days of a month, made one after another.
-use Rattle.std.proofs.Common.{◌≡◌, ℕ, ◌+◌, ◌-◌, ◌≤◌, List, [], ◌∷◌, ◌++◌, map, Ok, sym, ap, ◌∙◌, add-one, arith}
-use Rattle.std.proofs.lemmas.List.{map_push}
+use Rattle.std.proofs.Common.{◌≡◌, ℕ, zero, suc, ◌+◌, ◌-◌, ◌≤◌, List, [], ◌∷◌, ◌++◌, length, map, Ok, refl, sym, ap, ◌∙◌, add-one, arith}
+use Rattle.std.proofs.lemmas.List.{length-append, length-map, map_push}
 use Rattle.gas.specs.declared.day.DayNumbers.{DayNumbers}
 use Rattle.gas.specs.declared.day.DayRecord.{DayRecord}
 use Rattle.gas.specs.Day.{numbers_of}
@@ -21,3 +21,11 @@ kth_day pattern k days more d n from sofar is made m =
     let before : k - 1 + 1 ≡ k = omega arith in
     let here : k - 1 + 1 ≡ k + 1 - 1 = omega arith in
     one_more pattern (k - 1) days more d n sofar (is ∙ ap (day_of pattern) (sym before)) made m ∙ ap (days_to pattern) here
+
+counted : (pattern : Pattern) (n : ℕ) → length (days_to pattern n) ≡ n
+counted pattern zero = refl
+counted pattern (suc n) = length-append (days_to pattern n) _ ∙ rw (counted pattern n) (add-one n)
+
+-- a pattern's first n days are n
+pub as_many : (pattern : Pattern) (n : ℕ) (days : List DayRecord) → map numbers_of days ≡ days_to pattern n → length days ≡ n
+as_many pattern n days are = sym (length-map days numbers_of) ∙ ap length are ∙ counted pattern n

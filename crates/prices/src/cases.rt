@@ -10,7 +10,6 @@ use crate::terms::{
     AFFORDABILITY, DEAR_AFFORDABILITY, FIRM, FRANCHISE, SECOND_AFFORDABILITY, SECOND_FRANCHISE,
     TOLERANCE, WEATHER, large, small,
 };
-use anyhow::Context;
 use gas::{ClosingNumbers, DayKind, DayRecord, Facts, MonthNumbers, Therms};
 use pipelines::Northern;
 use riders::{Interim, Rider};
@@ -68,15 +67,12 @@ const MARCH: MonthNumbers = MonthNumbers {
 
 const APRIL: MonthNumbers = MonthNumbers { month: 5, ..MARCH };
 
-// The facts of a month, or an error that says which month has none.
-fn lawful<'a>(
-    numbers: MonthNumbers,
-    days: &'a [DayRecord],
-    refusal: &'static str,
-) -> anyhow::Result<Facts<'a>>
-    ensures { IfOk result (λ f. Ok (facts_of f) ≡ checked_facts (record { numbers = numbers; days = days.now })) }
+// The facts of a month, which is lawful.
+fn lawful<'a>(numbers: MonthNumbers, days: &'a [DayRecord]) -> Facts<'a>
+    requires { checked_facts (record { numbers = numbers; days = days.now }) ≡ Ok (record { numbers = numbers; days = days.now }) }
+    ensures { Ok (facts_of result) ≡ checked_facts (record { numbers = numbers; days = days.now }) }
 {
-    Facts::new(numbers, days).ok().context(refusal)
+    Facts::new(numbers, days).unwrap()
 }
 
 // Small dual fuel in its upper band.
@@ -203,18 +199,20 @@ fn november_and_may(text: &mut String, november: &Facts, may: &Facts) -> Result<
 }
 
 // The mixed November and May. The facts borrow the days, so that each pair of months is made where its cases are printed.
+#[tactic(auto, using(crate::proofs::Months::as_many))]
 fn mixed_months(text: &mut String, heap: Global) -> anyhow::Result<()>
     ensures { OnOk result (Grows PrintsMixed (string_bytes text.old) (string_bytes text.new)) }
 {
     let november = Pattern::Mixed { base: 1_000 }.days(heap, 30)?;
     let may = Pattern::Mixed { base: 900 }.days(heap, 31)?;
-    let november = lawful(NOVEMBER, november.as_slice(), "November is not lawful")?;
-    let may = lawful(MAY, may.as_slice(), "May is not lawful")?;
+    let november = lawful(NOVEMBER, november.as_slice());
+    let may = lawful(MAY, may.as_slice());
     november_and_may(text, &november, &may)?;
     Ok(())
 }
 
 // The full December, once critical and once normal.
+#[tactic(auto, using(crate::proofs::Months::as_many))]
 fn full_months(text: &mut String, heap: Global) -> anyhow::Result<()>
     ensures { OnOk result (Grows PrintsFull (string_bytes text.old) (string_bytes text.new)) }
 {
@@ -226,40 +224,34 @@ fn full_months(text: &mut String, heap: Global) -> anyhow::Result<()>
         kind: DayKind::Normal,
     }
     .days(heap, 31)?;
-    let critical = lawful(
-        DECEMBER,
-        critical.as_slice(),
-        "the critical December is not lawful",
-    )?;
-    let normal = lawful(
-        DECEMBER,
-        normal.as_slice(),
-        "the normal December is not lawful",
-    )?;
+    let critical = lawful(DECEMBER, critical.as_slice());
+    let normal = lawful(DECEMBER, normal.as_slice());
     refusals(text, &critical, &normal)?;
     Ok(())
 }
 
 // March, and an April within the tolerance of a month.
+#[tactic(auto, using(crate::proofs::Months::as_many))]
 fn spring_months(text: &mut String, heap: Global) -> anyhow::Result<()>
     ensures { OnOk result (Grows PrintsSpring (string_bytes text.old) (string_bytes text.new)) }
 {
     let march = Pattern::Mixed { base: 1_000 }.days(heap, 31)?;
     let april = Pattern::Mixed { base: 930 }.days(heap, 30)?;
-    let march = lawful(MARCH, march.as_slice(), "March is not lawful")?;
-    let april = lawful(APRIL, april.as_slice(), "April is not lawful")?;
+    let march = lawful(MARCH, march.as_slice());
+    let april = lawful(APRIL, april.as_slice());
     seasons(text, &march, &april)?;
     Ok(())
 }
 
 // November once more, and an idle December.
+#[tactic(auto, using(crate::proofs::Months::as_many))]
 fn stacked_months(text: &mut String, heap: Global) -> anyhow::Result<()>
     ensures { OnOk result (Grows PrintsStacked (string_bytes text.old) (string_bytes text.new)) }
 {
     let november = Pattern::Mixed { base: 1_000 }.days(heap, 30)?;
     let idle = Pattern::Idle.days(heap, 31)?;
-    let november = lawful(NOVEMBER, november.as_slice(), "November is not lawful")?;
-    let idle = lawful(DECEMBER, idle.as_slice(), "the idle December is not lawful")?;
+    let november = lawful(NOVEMBER, november.as_slice());
+    let idle = lawful(DECEMBER, idle.as_slice());
     stacks(text, &november, &idle)?;
     Ok(())
 }
