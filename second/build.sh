@@ -4,4 +4,4 @@ set -eu
 cd "$(dirname "$0")/.."
 (cd crates/lines && rt run < stdin) > /dev/null
 (cd crates/prices && rt run) > /dev/null
-(cd second && cargo build --quiet --release --offline)
+(cd second && cargo build --quiet --release --offline --target-dir target)

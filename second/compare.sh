@@ -11,10 +11,19 @@ cd "$(dirname "$0")/.."
 count=${1:-1000}
 seed=${2:-1}
 second/build.sh
-if ! diff <(crates/prices/out/prices) <(second/target/release/prices); then
+rm -rf second/difference
+work=$(mktemp -d)
+trap 'rm -rf "$work"' EXIT
+crates/prices/out/prices > "$work/ours"
+second/target/release/prices > "$work/second"
+if [ "$(wc -l < "$work/ours")" -ne 271 ]; then
+    echo "prices: no header with 270 rows"
+    exit 2
+fi
+if ! diff "$work/ours" "$work/second"; then
     echo "prices: they differ"
     exit 1
 fi
 echo "prices: the same"
-exec second/target/release/compare crates/lines/out/lines second/target/release/lines \
+second/target/release/compare crates/lines/out/lines second/target/release/lines \
     --count "$count" --seed "$seed" --save second/difference

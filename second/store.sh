@@ -5,7 +5,7 @@
 #     second/store.sh [SEED]
 set -eu
 cd "$(dirname "$0")/.."
-(cd second && cargo build --quiet --release --offline)
+(cd second && cargo build --quiet --release --offline --target-dir target)
 second=second/target/release
 batch=crates/batch
 rm -rf "$batch/data"

@@ -1,8 +1,9 @@
 #!/usr/bin/env python3
 """Plants the bugs of planted/ one at a time, each in a copy, and says what the check made of it.
 
-    tools/planted.py            all crates
-    tools/planted.py book gas   these crates
+    tools/planted.py                   all crates
+    tools/planted.py book gas          these crates
+    tools/planted.py --said book gas   with what rt said of each
 
 planted/CRATE.txt has a block of lines for each bug, with an empty line between two:
 
@@ -18,8 +19,10 @@ its own copy of the crate and checks it. On standard output stands a row for eac
     crate | function | bug | verdict
 
 The verdict is 'refused at the code' (a clause or a safety condition there is not proved), 'refused at a proof' (a
-proof of that fact no longer holds), 'PROVED', or 'NO FIT' (the text no longer stands in the file, or what it makes
-is not read as a program). The status is 0 only if each bug is refused, and 2 where the crate itself is not proved.
+proof of that fact no longer holds), 'PROVED', 'NO FIT' (the text no longer stands in the file, or what it makes is
+not read as a program), or 'NO VERDICT' (the check was cut off, reached a limit of its own, or missed no more than a
+name in a proof file). What rt said of each that is not refused, and of all with --said, stands on standard error. The
+status is 0 only if there are bugs and each is refused, and 2 where the crate itself is not proved.
 """
 import pathlib
 import re
@@ -70,12 +73,15 @@ def plant(folder, crate, bugs):
 def verdict(said):
     if said is None or "BAD EDIT" in said:
         return "NO FIT"
+    if "NOT TRIED" in said or "only by a limit" in said or "only because" in said:
+        return "NO VERDICT"
     if "NOT REFUSED" in said or not said.startswith("refused"):
         return "PROVED"
-    return "refused at a proof" if "/proofs/" in said.split(": error", 1)[0] else "refused at the code"
+    place = re.search(r"(\S+\.(?:rt|antt)):\d+", said)
+    return "refused at a proof" if place and re.search(r"(^|/)proofs/", place[1]) else "refused at the code"
 
 
-def main(wanted):
+def main(wanted, all_said):
     crates = wanted or sorted(path.stem for path in (TOP / "planted").glob("*.txt"))
     rows, unproved = [], []
     with tempfile.TemporaryDirectory(prefix="planted-") as name:
@@ -97,14 +103,14 @@ def main(wanted):
             for bug, function, _ in bugs:
                 rows.append((crate, function, bug, verdict(said.get(bug))))
                 print(" | ".join(rows[-1]), flush=True)
-                if verdict(said.get(bug)) in ("PROVED", "NO FIT"):
+                if all_said or not rows[-1][3].startswith("refused"):
                     print(f"{crate}/{bug}: {said.get(bug)}", file=sys.stderr, flush=True)
     count = lambda what: sum(1 for row in rows if row[3] == what)
     print(f"{len(rows)} bugs: {count('refused at the code')} refused at the code, {count('refused at a proof')} at a proof,"
-          f" {count('PROVED')} proved, {count('NO FIT')} without fit", file=sys.stderr)
-    if unproved:
+          f" {count('PROVED')} proved, {count('NO FIT')} without fit, {count('NO VERDICT')} without verdict", file=sys.stderr)
+    if unproved or not rows:
         sys.exit(2)
     sys.exit(0 if all(row[3].startswith("refused") for row in rows) else 1)
 
 
-main(sys.argv[1:])
+main([word for word in sys.argv[1:] if word != "--said"], "--said" in sys.argv)
