@@ -12,7 +12,7 @@ fn main(rt: HostRuntime) -> anyhow::Result<()> {
     let heap = rt.alloc();
     for name in env::args(&rt)?.skip(1) {
         let file = fs::open(&rt, name.as_str()).context(name.as_str())?;
-        let journal = load(heap, file)?;
+        let journal = load(heap, file).context(name.as_str())?;
         rt.print(output(heap, &name, journal)?)?;
     }
     Ok(())

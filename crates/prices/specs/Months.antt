@@ -22,7 +22,7 @@ numbers month x y z increase first = record { month = month; closing = record { 
 abbrev pub IsNovember : MonthFacts → Type 0
 IsNovember f = IsMonth (numbers 0 30001 1000 1200 137 5) (Mixed 1000) 30 f
 
--- a May without
+-- a May without either
 abbrev pub IsMay : MonthFacts → Type 0
 IsMay f = IsMonth (numbers 6 25003 900 1100 0 0) (Mixed 900) 31 f
 

@@ -29,7 +29,7 @@ const NOVEMBER: MonthNumbers = MonthNumbers {
     first: 5,
 };
 
-// A May behind which the first unauthorized day lies, without an increase.
+// A May after the first unauthorized day, without an increase.
 const MAY: MonthNumbers = MonthNumbers {
     month: 6,
     closing: ClosingNumbers {
