@@ -1,5 +1,5 @@
 -- What it means that totals or a day are lawful.
-use Rattle.std.proofs.Common.{◌≡◌, ℕ, ◌≤◌, Bool, true, false, leb, List, [], ◌∷◌, Ok, Err, Result, refl, arith}
+use Rattle.std.proofs.Common.{◌≡◌, ℕ, ◌≤◌, Bool, true, false, leb, List, [], ◌∷◌, Ok, Result, refl, arith}
 use Rattle.std.proofs.lemmas.Bool.{and_parts, leb-true}
 use Rattle.gas.specs.declared.day.DayNumbers.{DayNumbers}
 use Rattle.gas.specs.declared.faults.InputFault.{InputFault}

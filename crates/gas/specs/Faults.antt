@@ -2,6 +2,7 @@
 use Rattle.std.specs.Prelude.{ℕ}
 use Rattle.gas.specs.declared.faults.InputFault.{InputFault}
 use Rattle.gas.specs.declared.faults.InputFault.TheVariants.{Month, Day, DayKind, Mark, Quantity, PerMille, DayCount}
+use Rattle.gas.specs.declared.items.PriceValues.{PriceValues}
 use Rattle.gas.specs.declared.items.ScheduleFault.{ScheduleFault}
 use Rattle.gas.specs.declared.items.ScheduleFault.TheVariants.{PastLimit}
 use Rattle.gas.specs.Items.{item_number, layer_number}
@@ -17,8 +18,8 @@ input_number PerMille = 8
 input_number DayCount = 25
 
 -- 28, with the month, the item and the layer at which the amount passed its limit
-abbrev pub schedule_values : ScheduleFault → ℕ × ℕ × ℕ × ℕ
-schedule_values (PastLimit month item layer) = (28, month, item_number item, layer_number layer)
+abbrev pub schedule_values : ScheduleFault → ℕ × PriceValues
+schedule_values (PastLimit month item layer) = (28, record { month = month; item = item_number item; layer = layer_number layer })
 
 -- the first of these
 abbrev pub schedule_number : ScheduleFault → ℕ

@@ -18,7 +18,7 @@ pub use calendar::Month;
 pub use day::{DayKind, DayNumbers, DayRecord};
 pub use facts::{Facts, MonthNumbers};
 pub use faults::InputFault;
-pub use items::{Item, Layer, ScheduleFault};
+pub use items::{Item, Layer, PriceValues, ScheduleFault};
 pub use marks::mark;
 pub use month::{Closing, ClosingNumbers, Totals, TotalsNumbers};
 pub use pipeline::Pipeline;

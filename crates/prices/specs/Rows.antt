@@ -2,6 +2,7 @@
 use Rattle.std.specs.Prelude.{ℕ, List, ◌++◌, ℤ, Ok, Err, codes, decimal, flat_map}
 use Rattle.std.specs.Fmt.{signed_decimal}
 use Rattle.gas.specs.declared.items.Item.{Item}
+use Rattle.gas.specs.declared.items.PriceValues.{PriceValues}
 use Rattle.gas.specs.declared.items.ScheduleFault.{ScheduleFault}
 use Rattle.gas.specs.Faults.{schedule_values}
 use Rattle.gas.specs.Items.{item_number}
@@ -16,8 +17,8 @@ abbrev pub amount_text : ℕ → Item → ℤ → List ℕ
 amount_text n item z = decimal n ++ (codes " " ++ (decimal (item_number item) ++ (codes " " ++ signed_decimal z)))
 
 -- a fault's number, month, item and layer
-abbrev pub values_text : ℕ × ℕ × ℕ × ℕ → List ℕ
-values_text v = decimal v.0 ++ (codes " " ++ (decimal v.1 ++ (codes " " ++ (decimal v.2 ++ (codes " " ++ decimal v.3)))))
+abbrev pub values_text : ℕ × PriceValues → List ℕ
+values_text v = decimal v.0 ++ (codes " " ++ (decimal v.1.month ++ (codes " " ++ (decimal v.1.item ++ (codes " " ++ decimal v.1.layer)))))
 
 -- the case, the item and the fault
 abbrev pub refusal_text : ℕ → Item → ScheduleFault → List ℕ

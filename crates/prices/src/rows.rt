@@ -3,7 +3,7 @@ ghost use Rattle.std.specs.Prelude.{Some};
 ghost use Rattle.gas.specs.Inputs.{read};
 ghost use Rattle.prices.specs.Rows.{answer_text};
 
-use gas::{Item, Millicents, ScheduleFault};
+use gas::{Item, Millicents, PriceValues, ScheduleFault};
 use std::fmt;
 
 // What an item costs in a case, or why it has no price.
@@ -23,15 +23,12 @@ impl fmt::Display for Row {
                 write!(f, "{} {} {amount}", self.case, self.item.number())
             }
             Err(fault) => {
-                let ScheduleFault::PastLimit { month, item, layer } = fault;
+                let (number, PriceValues { month, item, layer }) = fault.values();
                 write!(
                     f,
-                    "{} {} refused {} {month} {} {}",
+                    "{} {} refused {number} {month} {item} {layer}",
                     self.case,
-                    self.item.number(),
-                    fault.number(),
-                    item.number(),
-                    layer.number()
+                    self.item.number()
                 )
             }
         }
