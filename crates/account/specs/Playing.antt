@@ -21,4 +21,4 @@ pub record Played (s : Tariff) (bytes : List ℕ) (a b : State) (refusals : List
   pub account : b ≡ account_after s a records
   pub refused : refusals ≡ refusals_of s 1 0 a records end
   pub run : (h : History) → Run s h a → Run s (history_after s h a records) b
-  pub adds_up : (h : History) → Run s h a → AddsUp s (known (history_after s h a records)) b.lines (open_therms b.year)
+  pub adds_up : (h : History) → Run s h a → AddsUp s (known (history_after s h a records)) b (open_therms b.year)

@@ -1,4 +1,5 @@
 // Why a record of a journal is refused, and the number of each refusal.
+use gas::PriceValues;
 use history::AccountFault;
 use journal::ReadFault;
 
@@ -35,6 +36,17 @@ impl JournalFault {
         match self {
             JournalFault::Unread { place, .. } | JournalFault::Refused { place, .. } => place,
         }
+    }
+
+    // The number and the place with the values of the account's refusal, if it has any.
+    pub fn values(self) -> (u8, usize, Option<PriceValues>)
+        ensures { result ≡ journal_values self }
+    {
+        let values = match self {
+            JournalFault::Unread { .. } => None,
+            JournalFault::Refused { fault, .. } => fault.values().1,
+        };
+        (self.number(), self.place(), values)
     }
 }
 

@@ -2,8 +2,8 @@
 use crate::fixtures::{
     DEAR, OPEN, QUIET, SMALL, accepts, call, closing, correction, even, post, refuses,
 };
-use account::Account;
-use gas::{Item, Layer, PerMille, Schedule, ScheduleFault};
+use account::{Account, JournalFault};
+use gas::{Item, Layer, PerMille, PriceValues, Schedule, ScheduleFault};
 use history::AccountFault;
 use journal::{Day, Record};
 use riders::{Franchise, Interim, Rider};
@@ -50,6 +50,28 @@ fn post_month<S: Schedule>(
 ) {
     post(rt, account, 1..26, even(month, 0, therms));
     post(rt, account, 26..past, even(month, 0, 0));
+}
+
+// A price past its limit in May, of affordability at its rider, by itself, of a call, and of a record at byte 40; and a fault that has no values.
+#[test]
+fn faults_answer_their_values(rt: HostRuntime) {
+    let values = PriceValues {
+        month: 6,
+        item: 7,
+        layer: 3,
+    };
+    let fault = ScheduleFault::PastLimit {
+        month: 6,
+        item: Item::Affordability,
+        layer: Layer::Affordability,
+    };
+    assert_eq!(rt; fault.values(), (28, values));
+    let refused = AccountFault::from(fault);
+    assert_eq!(rt; refused.values(), (28, Some(values)));
+    let record = JournalFault::from((40, refused));
+    assert_eq!(rt; record.values(), (28, 40, Some(values)));
+    let without = JournalFault::from((40, AccountFault::NoRoom));
+    assert_eq!(rt; without.values(), (29, 40, None));
 }
 
 // 30 × 200,000 therms at 2,000,000 are 12 × 10^12.
@@ -116,7 +138,7 @@ fn the_lowest_item_comes_first(rt: HostRuntime) {
     );
 }
 
-// The interim rider at 1,000 per mille asks as much as items 1, 2 and 7 together. Those are past 10^13 where the month has 5,000,000 therms: first in both interim months, then in December alone.
+// The interim rider at 1,000 per mille asks as much as items 1, 2 and 7 together. Those are past 10^13 where the month has 5,000,000 therms: first in both interim months, then in December alone, and once the account is settled again in November, where at the opening's increase of 0 nothing is.
 #[test]
 fn the_lowest_month_comes_first(rt: HostRuntime) {
     let mut account = Account::new(Interim.on(DEAR.on(SMALL)));
@@ -144,6 +166,14 @@ fn the_lowest_month_comes_first(rt: HostRuntime) {
     );
     accepts(&rt, &mut account, correction(even(1, 1, 0)));
     accepts(&rt, &mut account, settling(1_000));
+    overruns(
+        &rt,
+        &mut account,
+        correction(even(0, 1, 200_000)),
+        0,
+        Item::Interim,
+        Layer::Interim,
+    );
 }
 
 const FRANCHISE: Franchise = Franchise {

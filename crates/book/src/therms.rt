@@ -16,11 +16,11 @@ fn net_therms(days: &[DayRecord]) -> NetTherms
     requires { length days.now ≤ 31 }
     ensures { result.count ≡ net_therms days.now }
 {
-    let receipts: u32 = days.iter().map(|day| day.receipts.count).sum();
-    let readings: u32 = days.iter().map(|day| day.reading.count).sum();
-    NetTherms {
-        count: receipts as i64 - readings as i64,
+    let mut sum = NetTherms::default();
+    for day in days {
+        sum += NetTherms::between(day.receipts, day.reading);
     }
+    sum
 }
 
 impl MeterYear {

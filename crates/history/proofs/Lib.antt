@@ -1,6 +1,7 @@
 pub mod Accounted
 pub mod Bringing
 pub mod Collected
+pub mod Dated
 pub mod Known
 pub mod Law
 pub mod Months

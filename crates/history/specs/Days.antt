@@ -2,12 +2,13 @@
 -- Words:
 -- a place, where a day's record stands or does not stand: 31 for each month, in the order of dates
 -- a day is posted where its place has a record
-use Rattle.std.specs.Prelude.{ℕ, ◌+◌, ◌-◌, ◌*◌, Bool, if◌then◌else◌, ◌&&◌, List, length, take, drop, ℤ, pos, ◌-ℤ◌, Some, None, sum_by, Option, ◌==◌, nat_le, nat_lt, false}
+use Rattle.std.specs.Prelude.{◌≡◌, ℕ, ◌+◌, ◌-◌, ◌*◌, ◌≤◌, Bool, if◌then◌else◌, ◌&&◌, List, length, take, drop, ℤ, pos, ◌-ℤ◌, Some, None, sum_by, Option, ◌==◌, nat_le, nat_lt, false}
 use Rattle.std.specs.List.{flat_map, position}
 use Rattle.std.specs.Option.{option_to_list}
 use Rattle.gas.specs.declared.day.DayRecord.{DayRecord}
 use Rattle.gas.specs.Calendar.{month_length}
 use Rattle.gas.specs.Day.{metered, received}
+use Rattle.gas.specs.Inputs.{last_month}
 
 -- what stands at each place of a year: the record of a day, or none
 abbrev pub Places : Type 0
@@ -24,6 +25,15 @@ month_place month = 31 * month
 -- the place of a day, which is counted from 1
 abbrev pub place_of : ℕ → ℕ → ℕ
 place_of month day = month_place month + (day - 1)
+
+-- a place is that of a day of the year: of a day that one of the twelve months has
+pub record IsDayPlace (leap : Bool) (place : ℕ) : Type 0 where
+  pub month : ℕ
+  pub day : ℕ
+  pub of_year : month ≤ last_month
+  pub first : 1 ≤ day
+  pub last : day ≤ month_length leap month
+  pub there : place ≡ place_of month day
 
 -- the places of a month's days
 abbrev pub month_places : Bool → Places → ℕ → Places

@@ -2,19 +2,22 @@
 -- Words:
 -- a history, the calls so far with their answers, the newest first
 -- a run, what a new account has become by a history
-use Rattle.std.specs.Prelude.{◌≡◌, ℕ, ◌<◌, if◌then◌else◌, List, [], ◌∷◌, length, ℤ, ◌+ℤ◌, Ok, Option, ◌==◌, is_some}
+use Rattle.std.specs.Prelude.{◌≡◌, ℕ, ◌<◌, true, false, if◌then◌else◌, List, [], ◌∷◌, length, ℤ, ◌+ℤ◌, Some, None, Ok, Option, ◌==◌, is_some, slice_index_or}
 use Rattle.std.specs.Int.{int_min}
 use Rattle.std.specs.Result.{result_err, result_unwrap_or}
+use Rattle.gas.specs.declared.day.DayRecord.{DayRecord}
 use Rattle.gas.specs.declared.items.Item.{Item}
 use Rattle.gas.specs.declared.items.Item.TheVariants.{MonthlyBalancing}
-use Rattle.gas.specs.Items.{item_number}
+use Rattle.gas.specs.Items.{all_items, item_number}
 use Rattle.history.specs.declared.faults.AccountFault.{AccountFault}
 use Rattle.history.specs.declared.lines.Heading.TheVariants.{Priced, Refund}
 use Rattle.history.specs.declared.lines.Line.{Line}
 use Rattle.history.specs.Calls.{Call, State, learned, outcome}
+use Rattle.history.specs.Days.{IsDayPlace, net_therms, posted_in}
 use Rattle.history.specs.Headings.{heading_item, heading_month, money_on, sum_under, sum_where, therms_on}
-use Rattle.history.specs.Prices.{Tariff, all_therms, final_price, interim_price, open_therms, price_of}
-use Rattle.history.specs.Year.{Opening, Settlement, Year, is_interim, settled, unknown_year}
+use Rattle.history.specs.Prices.{Tariff, open_therms, price_at, price_of}
+use Rattle.history.specs.Sums.{sum_z}
+use Rattle.history.specs.Year.{Opening, Settlement, Year, interim_months, is_interim, is_opened, settled, unknown_year}
 
 -- a call and its answer: none if it was accepted, else the refusal
 pub record Entry : Type 0 where
@@ -59,14 +62,38 @@ balanced_therms lines = sum_where (λ h. heading_item h == item_number MonthlyBa
 abbrev pub interim_lines : Opening → List Line → ℤ
 interim_lines o lines = sum_where (λ h. is_interim o (heading_month h)) money_on lines
 
+-- what all items of all interim months cost at an increase: each of them has a price that is an amount, and no fault, and these amounts add up to the total
+pub record InterimCosts (s : Tariff) (y : Year) (o : Opening) (increase : ℕ) (total : ℤ) : Type 0 where
+  pub amount : ℕ → Item → ℤ
+  pub priced : (month : ℕ) (item : Item) → is_interim o month ≡ true → price_at s increase y month item ≡ Ok (amount month item)
+  pub whole : total ≡ sum_z (λ month. sum_z (amount month) all_items) (interim_months o)
+
+-- what holds of an account that is settled
+-- closed: every interim month is closed
+-- interim, final: the interim price, at the opening's increase, and the final price, at the settlement's
+-- lesser: what stands under the interim months and under the refund is the lesser of the two
+pub record SettlesUp (s : Tariff) (y : Year) (lines : List Line) (o : Opening) (t : Settlement) : Type 0 where
+  pub closed : (month : ℕ) → is_interim o month ≡ true → month < length y.closings
+  pub interim_price : ℤ
+  pub final_price : ℤ
+  pub interim : InterimCosts s y o o.increase interim_price
+  pub final : InterimCosts s y o t.final_increase final_price
+  pub lesser : interim_lines o lines +ℤ sum_under money_on Refund lines ≡ int_min interim_price final_price
+
+-- known: the account's own year is the year as known, y
+-- unopened: before the opening the account is a new one, which knows nothing and has written nothing
+-- dated: each record stands at a day of the year, as the leap mark has it
 -- months: the lines under an item of a closed month sum to the item's price, which is no fault
--- therms: what all monthly balancing lines carry and what is open make up the net therms of all posted days
--- settlement: once settled, what stands under the interim months and under the refund is the smaller of the two prices
-pub record AddsUp (s : Tariff) (y : Year) (lines : List Line) (still_open : ℤ) : Type 0 where
-  pub months : (month : ℕ) (item : Item) → month < length y.closings → price_of s y month item ≡ Ok (sum_under money_on (Priced month item) lines)
-  pub therms : balanced_therms lines +ℤ still_open ≡ all_therms y
-  pub settlement : (o : Opening) (t : Settlement) → y.standing ≡ settled o t → interim_lines o lines +ℤ sum_under money_on Refund lines ≡ int_min (interim_price s y) (final_price s t y)
+-- therms: what all monthly balancing lines carry and what is open make up the net therms of every record that stands anywhere
+-- settlement: once settled, all of a settlement holds
+pub record AddsUp (s : Tariff) (y : Year) (a : State) (still_open : ℤ) : Type 0 where
+  pub known : a.year ≡ y
+  pub unopened : is_opened y.standing ≡ false → a ≡ new_state
+  pub dated : (place : ℕ) (day : DayRecord) → slice_index_or y.days place None ≡ Some day → IsDayPlace y.leap place
+  pub months : (month : ℕ) (item : Item) → month < length y.closings → price_of s y month item ≡ Ok (sum_under money_on (Priced month item) a.lines)
+  pub therms : balanced_therms a.lines +ℤ still_open ≡ net_therms (posted_in y.days)
+  pub settlement : (o : Opening) (t : Settlement) → y.standing ≡ settled o t → SettlesUp s y a.lines o t
 
 -- the law of all runs: for every tariff, history and account
 abbrev pub RunsAddUp : Type 0
-RunsAddUp = (s : Tariff) (h : History) (b : State) → Run s h b → AddsUp s (known h) b.lines (open_therms b.year)
+RunsAddUp = (s : Tariff) (h : History) (b : State) → Run s h b → AddsUp s (known h) b (open_therms b.year)

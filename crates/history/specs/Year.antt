@@ -1,5 +1,5 @@
 -- The year as it is known from the calls that were accepted.
-use Rattle.std.specs.Prelude.{◌≡◌, ℕ, ◌-◌, ◌<◌, Bool, true, false, List, [], length, replicate, None}
+use Rattle.std.specs.Prelude.{◌≡◌, ℕ, ◌+◌, ◌-◌, ◌<◌, Bool, true, false, List, [], length, replicate, None}
 use Rattle.std.specs.Int.{is_in_range}
 use Rattle.std.specs.List.{filter, range_with_len}
 use Rattle.gas.specs.declared.month.ClosingNumbers.{ClosingNumbers}
@@ -66,6 +66,10 @@ Complete leap days closings = (month : ℕ) → month < length closings → is_c
 -- the interim months run from the first to the last
 abbrev pub is_interim : Opening → ℕ → Bool
 is_interim o month = is_in_range o.first o.last month
+
+-- they are, in order
+abbrev pub interim_months : Opening → List ℕ
+interim_months o = range_with_len o.first (o.last + 1 - o.first)
 
 -- the interim months that are closed; once an account is settled, these are all of them
 abbrev pub closed_interim : Year → List ℕ

@@ -1,9 +1,9 @@
 // Why an account refuses a call, and the number of each refusal.
 ghost use Rattle.std.specs.Prelude.{◌≡◌};
-ghost use Rattle.history.specs.Faults.{account_number};
+ghost use Rattle.history.specs.Faults.{account_number, account_values};
 ghost use Rattle.history.specs.declared.faults.AccountFault.TheVariants.{Input, Schedule};
 
-use gas::{InputFault, ScheduleFault};
+use gas::{InputFault, PriceValues, ScheduleFault};
 
 #[derive(Clone, Copy, Debug, PartialEq, Eq)]
 pub enum AccountFault {
@@ -42,6 +42,17 @@ impl AccountFault {
             AccountFault::NoRoom => 29,
             AccountFault::NoLine => 30,
         }
+    }
+
+    // The number with its values, which 28 alone has.
+    pub fn values(self) -> (u8, Option<PriceValues>)
+        ensures { result ≡ account_values self }
+    {
+        let values = match self {
+            AccountFault::Schedule(fault) => Some(fault.values().1),
+            _ => None,
+        };
+        (self.number(), values)
     }
 }
 

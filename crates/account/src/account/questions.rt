@@ -39,7 +39,7 @@ impl<S: Schedule> Account<S> {
     pub fn open_therms(&self) -> NetTherms
         ensures is { result.count ≡ open_therms self.now.state.year }
         ensures law { RunsAddUp }
-        ensures adds_up { (h : History) → Run (tariff_by (S.unauthorized self.now.schedule) (S.price self.now.schedule)) h self.now.state → AddsUp (tariff_by (S.unauthorized self.now.schedule) (S.price self.now.schedule)) (known h) self.now.state.lines result.count }
+        ensures adds_up { (h : History) → Run (tariff_by (S.unauthorized self.now.schedule) (S.price self.now.schedule)) h self.now.state → AddsUp (tariff_by (S.unauthorized self.now.schedule) (S.price self.now.schedule)) (known h) self.now.state result.count }
     {
         self.book.open_therms()
     }
