@@ -62,15 +62,20 @@ balanced_therms lines = sum_where (λ h. heading_item h == item_number MonthlyBa
 abbrev pub interim_lines : Opening → List Line → ℤ
 interim_lines o lines = sum_where (λ h. is_interim o (heading_month h)) money_on lines
 
--- what all items of all interim months cost at an increase: each of them has a price that is an amount, and no fault, and these amounts add up to the total
+-- what all items of all interim months cost at an increase
+-- priced: each of them has a price that is an amount, and no fault
+-- whole: these amounts add up to the total
 pub record InterimCosts (s : Tariff) (y : Year) (o : Opening) (increase : ℕ) (total : ℤ) : Type 0 where
   pub amount : ℕ → Item → ℤ
-  pub priced : (month : ℕ) (item : Item) → is_interim o month ≡ true → price_at s increase y month item ≡ Ok (amount month item)
+  pub priced :
+      (month : ℕ) (item : Item) → is_interim o month ≡ true →
+      price_at s increase y month item ≡ Ok (amount month item)
   pub whole : total ≡ sum_z (λ month. sum_z (amount month) all_items) (interim_months o)
 
 -- what holds of an account that is settled
 -- closed: every interim month is closed
--- interim, final: the interim price, at the opening's increase, and the final price, at the settlement's
+-- interim: the interim price, at the opening's increase
+-- final: the final price, at the settlement's
 -- lesser: what stands under the interim months and under the refund is the lesser of the two
 pub record SettlesUp (s : Tariff) (y : Year) (lines : List Line) (o : Opening) (t : Settlement) : Type 0 where
   pub closed : (month : ℕ) → is_interim o month ≡ true → month < length y.closings
@@ -78,22 +83,31 @@ pub record SettlesUp (s : Tariff) (y : Year) (lines : List Line) (o : Opening) (
   pub final_price : ℤ
   pub interim : InterimCosts s y o o.increase interim_price
   pub final : InterimCosts s y o t.final_increase final_price
-  pub lesser : interim_lines o lines +ℤ sum_under money_on Refund lines ≡ int_min interim_price final_price
+  pub lesser :
+      interim_lines o lines +ℤ sum_under money_on Refund lines ≡ int_min interim_price final_price
 
--- known: the account's own year is the year as known, y
--- unopened: before the opening the account is a new one, which knows nothing and has written nothing
+-- an account in the year as known, y, with the therms that it says are open
+-- known: its own year is the year as known
+-- unopened: before the opening it is a new one, which knows nothing and has written nothing
 -- dated: each record stands at a day of the year, as the leap mark has it
 -- months: the lines under an item of a closed month sum to the item's price, which is no fault
--- therms: what all monthly balancing lines carry and what is open make up the net therms of every record that stands anywhere
+-- therms: what all monthly balancing lines carry and what is open make up the net therms of
+--   every record that stands anywhere
 -- settlement: once settled, all of a settlement holds
 pub record AddsUp (s : Tariff) (y : Year) (a : State) (still_open : ℤ) : Type 0 where
   pub known : a.year ≡ y
   pub unopened : is_opened y.standing ≡ false → a ≡ new_state
-  pub dated : (place : ℕ) (day : DayRecord) → slice_index_or y.days place None ≡ Some day → IsDayPlace y.leap place
-  pub months : (month : ℕ) (item : Item) → month < length y.closings → price_of s y month item ≡ Ok (sum_under money_on (Priced month item) a.lines)
+  pub dated :
+      (place : ℕ) (day : DayRecord) → slice_index_or y.days place None ≡ Some day →
+      IsDayPlace y.leap place
+  pub months :
+      (month : ℕ) (item : Item) → month < length y.closings →
+      price_of s y month item ≡ Ok (sum_under money_on (Priced month item) a.lines)
   pub therms : balanced_therms a.lines +ℤ still_open ≡ net_therms (posted_in y.days)
-  pub settlement : (o : Opening) (t : Settlement) → y.standing ≡ settled o t → SettlesUp s y a.lines o t
+  pub settlement :
+      (o : Opening) (t : Settlement) → y.standing ≡ settled o t → SettlesUp s y a.lines o t
 
 -- the law of all runs: for every tariff, history and account
 abbrev pub RunsAddUp : Type 0
-RunsAddUp = (s : Tariff) (h : History) (b : State) → Run s h b → AddsUp s (known h) b (open_therms b.year)
+RunsAddUp =
+    (s : Tariff) (h : History) (b : State) → Run s h b → AddsUp s (known h) b (open_therms b.year)
