@@ -9,7 +9,7 @@ use gas::{DayRecord, Month};
 use std::marker::Model;
 use std::mem;
 
-// What stands at each place of the year, in memory of a fixed size. A contract sees it as the list of these; that there are 372 is the size of the array, and all that is said of it here.
+// What stands at each place of the year, in memory of a fixed size. A contract sees it as the list of these.
 #[derive(Drop)]
 pub struct DayTable {
     places: [Option<DayRecord>; 372],
@@ -22,8 +22,6 @@ impl Model for DayTable {
     ghost Value = { Places };
 
     ghost view = { λ t. t.places };
-
-    ghost invariant = { λ t. length t.places ≡ 372 };
 }
 
 // The posted days of a month in order.
