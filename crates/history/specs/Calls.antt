@@ -102,7 +102,9 @@ stored (Err e) days place = days
 abbrev pub with_day : Year → ℕ → ℕ → DayNumbers → Year
 with_day y month day n = record y { days = stored (day_of n) y.days (place_of month day) }
 
--- the year as known after a call that was accepted; an opening begins it
+-- the year as known after a call that was accepted
+-- an opening begins it; nothing is known of an account that is not opened, so its arguments are all
+-- that an opening puts down
 abbrev pub learned : Call → Year → Year
 learned (opening leap o) y = record unknown_year { standing = running o; leap = (leap == 1) }
 learned (posting month day n) y = with_day y month day n

@@ -2,12 +2,13 @@
 -- Words:
 -- a history, the calls so far with their answers, the newest first
 -- a run, what a new account has become by a history
-use Rattle.std.specs.Prelude.{◌≡◌, ℕ, ◌<◌, true, false, if◌then◌else◌, List, [], ◌∷◌, length, ℤ, ◌+ℤ◌, Some, None, Ok, Option, ◌==◌, is_some, slice_index_or}
+use Rattle.std.specs.Prelude.{◌≡◌, ℕ, ◌<◌, ◌≤◌, true, false, if◌then◌else◌, List, [], ◌∷◌, length, ℤ, ◌+ℤ◌, Some, None, Ok, Option, ◌==◌, is_some, slice_index_or}
 use Rattle.std.specs.Int.{int_min}
 use Rattle.std.specs.Result.{result_err, result_unwrap_or}
 use Rattle.gas.specs.declared.day.DayRecord.{DayRecord}
 use Rattle.gas.specs.declared.items.Item.{Item}
 use Rattle.gas.specs.declared.items.Item.TheVariants.{MonthlyBalancing}
+use Rattle.gas.specs.Inputs.{last_month}
 use Rattle.gas.specs.Items.{all_items, item_number}
 use Rattle.history.specs.declared.faults.AccountFault.{AccountFault}
 use Rattle.history.specs.declared.lines.Heading.TheVariants.{Priced, Refund}
@@ -73,11 +74,14 @@ pub record InterimCosts (s : Tariff) (y : Year) (o : Opening) (increase : ℕ) (
   pub whole : total ≡ sum_z (λ month. sum_z (amount month) all_items) (interim_months o)
 
 -- what holds of an account that is settled
+-- some, of_year: there is an interim month, and all are months of the year
 -- closed: every interim month is closed
 -- interim: the interim price, at the opening's increase
 -- final: the final price, at the settlement's
 -- lesser: what stands under the interim months and under the refund is the lesser of the two
 pub record SettlesUp (s : Tariff) (y : Year) (lines : List Line) (o : Opening) (t : Settlement) : Type 0 where
+  pub some : o.first ≤ o.last
+  pub of_year : o.last ≤ last_month
   pub closed : (month : ℕ) → is_interim o month ≡ true → month < length y.closings
   pub interim_price : ℤ
   pub final_price : ℤ
