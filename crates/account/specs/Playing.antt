@@ -13,7 +13,7 @@ use Rattle.account.specs.Journals.{account_after, history_after, refusals_of}
 -- account: each record was played in order, on what the one before had left
 -- refused: just the refused ones are answered, and last the one that could not be read
 -- run: with these records, each with its answer, the account after goes on from every history of the account before; this follows from account
--- adds_up: by all these histories, the lines of the account after and its open therms add up as the law says; this follows from run
+-- adds_up: by all these histories the law holds of the account after, with its open therms; this follows from run
 pub record Played (s : Tariff) (bytes : List ℕ) (a b : State) (refusals : List Refusal) : Type 0 where
   pub records : List Placed
   pub end : Option ReadFault

@@ -38,7 +38,7 @@ impl<S: Schedule> Account<S> {
         Ok(())
     }
 
-    // Plays every record of a journal in order. The refused ones are answered by their number and place, and passed over; one that cannot be read is the last. The law of all runs stands here: whole, and of this account, its own lines and its open therms, by every history that it goes on from.
+    // Plays every record of a journal in order. The refused ones are answered by their number and place, and passed over; one that cannot be read is the last. The law of all runs stands here: whole, and of this account by every history that it goes on from.
     pub fn play(&mut self, heap: Global, journal: &[u8]) -> Result<Vec<Refusal>, AllocError>
         ensures played { IfOk result (λ refusals. Played (tariff_by (S.unauthorized self.old.schedule) (S.price self.old.schedule)) journal.now self.old.state self.new.state (vec_items refusals)) }
         ensures schedule { self.new.schedule ≡ self.old.schedule }
