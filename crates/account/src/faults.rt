@@ -38,7 +38,8 @@ impl JournalFault {
         }
     }
 
-    // The number and the place with the values of the account's refusal, if it has any.
+    /// The number of the refusal and the byte place of the record, with the values of the account's
+    /// refusal if it has any (`docs/ACCOUNT.md`).
     pub fn values(self) -> (u8, usize, Option<PriceValues>)
         ensures { result ≡ journal_values self }
     {

@@ -44,7 +44,7 @@ impl AccountFault {
         }
     }
 
-    // The number with its values, which 28 alone has.
+    /// The number of the refusal with its values, which 28 alone has (`docs/ACCOUNT.md`).
     pub fn values(self) -> (u8, Option<PriceValues>)
         ensures { result ≡ account_values self }
     {
