@@ -9,4 +9,5 @@ use Rattle.account.specs.declared.faults.JournalFault.TheVariants.{Unread, Refus
 -- the number, the place of the record's first byte, and the values that come with an account's refusal
 abbrev pub journal_values : JournalFault → ℕ × ℕ × Option PriceValues
 journal_values (Unread place fault) = (read_number fault, place, None)
-journal_values (Refused place fault) = let v : ℕ × Option PriceValues = account_values fault in (v.0, place, v.1)
+journal_values (Refused place fault) =
+    let v : ℕ × Option PriceValues = account_values fault in (v.0, place, v.1)

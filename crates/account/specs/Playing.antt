@@ -13,7 +13,8 @@ use Rattle.account.specs.Journals.{account_after, history_after, refusals_of}
 -- account: each record was played in order, on what the one before had left
 -- refused: just the refused ones are answered, and last the one that could not be read
 -- run: with these records, each with its answer, the account after goes on from every history of the account before; this follows from account
--- adds_up: by all these histories the law holds of the account after, with its open therms; this follows from run
+-- adds_up: by all these histories the law holds of the account after, with its open therms; this
+--   follows from run
 pub record Played (s : Tariff) (bytes : List ℕ) (a b : State) (refusals : List Refusal) : Type 0 where
   pub records : List Placed
   pub end : Option ReadFault
@@ -21,4 +22,6 @@ pub record Played (s : Tariff) (bytes : List ℕ) (a b : State) (refusals : List
   pub account : b ≡ account_after s a records
   pub refused : refusals ≡ refusals_of s 1 0 a records end
   pub run : (h : History) → Run s h a → Run s (history_after s h a records) b
-  pub adds_up : (h : History) → Run s h a → AddsUp s (known (history_after s h a records)) b (open_therms b.year)
+  pub adds_up :
+      (h : History) → Run s h a →
+      AddsUp s (known (history_after s h a records)) b (open_therms b.year)

@@ -3,14 +3,15 @@ use gas::PriceValues;
 use history::AccountFault;
 use journal::ReadFault;
 
-// A record could not be read, or the account refused it whole as it is told here; either with the place of the record's first byte.
+/// Why a record of a journal is refused: it could not be read, or the account refused it, whole as
+/// it is told here. Either comes with the byte place of the record (`docs/ACCOUNT.md`).
 #[derive(Clone, Copy, Debug, PartialEq, Eq)]
 pub enum JournalFault {
     Unread { place: usize, fault: ReadFault },
     Refused { place: usize, fault: AccountFault },
 }
 
-// A refused record of a journal, by its number counted from 1.
+/// A refused record of a journal, by its number counted from 1 (`docs/ACCOUNT.md`).
 #[derive(Clone, Copy, Debug, PartialEq, Eq)]
 pub struct Refusal {
     pub number: usize,
@@ -21,6 +22,7 @@ impl JournalFault {
     ghost use Rattle.std.specs.Prelude.{◌≡◌};
     ghost use Rattle.account.specs.Faults.{journal_values};
 
+    /// The number of the refusal (`docs/ACCOUNT.md`).
     pub fn number(self) -> u8
         ensures { result ≡ (journal_values self).0 }
     {
@@ -30,6 +32,7 @@ impl JournalFault {
         }
     }
 
+    /// The byte place of the record in the journal.
     pub fn place(self) -> usize
         ensures { result ≡ (journal_values self).1 }
     {

@@ -40,7 +40,8 @@ fn settling(final_increase: u16) -> Record {
     }
 }
 
-// Posts the days of a month up to the one past its end, 25 of them with so many therms and the others with none.
+// Posts the days of a month up to the one past its end, 25 of them with so many therms and the
+// others with none.
 fn post_month<S: Schedule>(
     rt: &impl Abort,
     account: &mut Account<S>,
@@ -52,7 +53,8 @@ fn post_month<S: Schedule>(
     post(rt, account, 26..past, even(month, 0, 0));
 }
 
-// A price past its limit in May, of affordability at its rider, by itself, of a call, and of a record at byte 40; and a fault that has no values.
+// A price past its limit in May, of affordability at its rider, by itself, of a call, and of a
+// record at byte 40; and a fault that has no values.
 #[test]
 fn faults_answer_their_values(rt: HostRuntime) {
     let values = PriceValues {
@@ -116,7 +118,8 @@ fn the_limit_itself_is_lawful(rt: HostRuntime) {
     assert_eq!(rt; account.line_count(), 3);
 }
 
-// Daily balancing, 30 × 200,000 × 2,000,000 of a critical month with nothing nominated, is too much at the class, and so is affordability at its rider.
+// Daily balancing, 30 × 200,000 × 2,000,000 of a critical month with nothing nominated, is too much
+// at the class, and so is affordability at its rider.
 #[test]
 fn the_lowest_item_comes_first(rt: HostRuntime) {
     let mut account = Account::new(DEAR.on(SMALL));
@@ -138,7 +141,10 @@ fn the_lowest_item_comes_first(rt: HostRuntime) {
     );
 }
 
-// The interim rider at 1,000 per mille asks as much as items 1, 2 and 7 together. Those are past 10^13 where the month has 5,000,000 therms: first in both interim months, then in December alone, and once the account is settled again in November, where at the opening's increase of 0 nothing is.
+// The interim rider at 1,000 per mille asks as much as items 1, 2 and 7 together. Those are past
+// 10^13 where the month has 5,000,000 therms: first in both interim months, then in December alone,
+// and once the account is settled again in November, where at the opening's increase of 0 nothing
+// is.
 #[test]
 fn the_lowest_month_comes_first(rt: HostRuntime) {
     let mut account = Account::new(Interim.on(DEAR.on(SMALL)));
@@ -180,7 +186,10 @@ const FRANCHISE: Franchise = Franchise {
     share: PerMille { share: 503 },
 };
 
-// By hand: of 4,900,000 therms items 1, 2 and 7 are s = 9,860,878,450,000 together, and item 10 is at most 503 per mille of 2 s, 9,920,043,720,700. Of 4,990,000 therms s is 10,041,996,340,000: at the opening's 990 per mille item 9 is 9,941,576,376,600, and item 10, 503 per mille of 1.99 s, is past 10^13; at the final 1,000 item 9 already is.
+// By hand: of 4,900,000 therms items 1, 2 and 7 are s = 9,860,878,450,000 together, and item 10 is
+// at most 503 per mille of 2 s, 9,920,043,720,700. Of 4,990,000 therms s is 10,041,996,340,000: at
+// the opening's 990 per mille item 9 is 9,941,576,376,600, and item 10, 503 per mille of 1.99 s, is
+// past 10^13; at the final 1,000 item 9 already is.
 #[test]
 fn the_openings_increase_comes_first(rt: HostRuntime) {
     let mut account = Account::new(FRANCHISE.on(Interim.on(DEAR.on(SMALL))));
@@ -202,7 +211,9 @@ fn the_openings_increase_comes_first(rt: HostRuntime) {
     accepts(&rt, &mut account, correction(even(0, 25, 100_000)));
 }
 
-// By hand: of 25 days with 200,000 unauthorized therms each, and one with a single one, all cost 2,000,000 a therm and are past 10^13 together. Where December 1 is the year's first unauthorized day it costs 300,000 less a therm.
+// By hand: of 25 days with 200,000 unauthorized therms each, and one with a single one, all cost
+// 2,000,000 a therm and are past 10^13 together. Where December 1 is the year's first unauthorized
+// day it costs 300,000 less a therm.
 #[test]
 fn a_correction_is_refused_for_another_month(rt: HostRuntime) {
     let mut account = Account::new(SMALL);

@@ -9,7 +9,8 @@ use gas::{DayRecord, Month};
 use std::marker::Model;
 use std::mem;
 
-// What stands at each place of the year, in memory of a fixed size. A contract sees it as the list of these.
+/// What stands at each place of the year, a day's record or none, in memory of a fixed size. A
+/// contract sees it as the list of these (`docs/HISTORY.md`).
 #[derive(Drop)]
 pub struct DayTable {
     places: [Option<DayRecord>; 372],
@@ -24,10 +25,11 @@ impl Model for DayTable {
     ghost view = { λ t. t.places };
 }
 
-// The posted days of a month in order.
+/// The posted days of a month in order.
 pub type MonthDays = ArrayVec<DayRecord, 31>;
 
 impl DayTable {
+    /// A table in which no day is posted.
     pub fn new() -> DayTable
         ensures { result ≡ replicate 372 None }
     {
@@ -36,28 +38,29 @@ impl DayTable {
         }
     }
 
-    // All places.
+    /// All places, 31 for each month from November on.
     pub fn as_slice(&self) -> &[Option<DayRecord>]
         ensures { result.now ≡ self.now }
     {
         self.places.as_slice()
     }
 
-    // What stands at a place.
+    /// What stands at a place.
     pub fn get(&self, place: Place) -> Option<DayRecord>
         ensures { result ≡ slice_index_or self.now place.index None }
     {
         self.places[place.index]
     }
 
-    // Puts a record at a place.
+    /// Puts a record at a place.
     pub fn set(&mut self, place: Place, day: DayRecord)
         ensures { self.new ≡ slice_set self.old place.index (Some day) }
     {
         self.places[place.index] = Some(day);
     }
 
-    // Lends the record at a place to be replaced and answers what it was; an empty place stays empty.
+    /// Lends the record at a place to be replaced and answers what it was; an empty place stays
+    /// empty.
     pub fn exchange(&mut self, place: Place, day: DayRecord) -> Option<DayRecord>
         ensures before { result ≡ slice_index_or self.old place.index None }
         ensures after { self.new ≡ exchanged self.old place.index day result }
@@ -66,7 +69,7 @@ impl DayTable {
         Some(mem::replace(record, day))
     }
 
-    // The places of a month's days.
+    /// The places of a month's days.
     pub fn month(&self, month: Month, leap: bool) -> &[Option<DayRecord>]
         ensures is { result.now ≡ month_places leap self.now month.number }
         ensures few { length result.now ≤ 31 }
@@ -75,7 +78,7 @@ impl DayTable {
     }
 }
 
-// Those of some places that have a record. A loop over the places: a `flatten` of them would want lemmas of its own. The bound of 31 stands here and not in a type, since a month's places are passed on at once.
+/// Those of at most 31 places that have a record, in order.
 pub fn posted(places: &[Option<DayRecord>]) -> MonthDays
     requires { length places.now ≤ 31 }
     ensures { result.items ≡ posted_in places.now }

@@ -34,7 +34,8 @@ impl MeterYear {
         net_therms(days.as_slice())
     }
 
-    // Receipts less readings of the days of open months. They are the same by any standing.
+    /// Receipts less readings of the days of open months, in therms: the same by any standing
+    /// (`docs/HISTORY.md`).
     pub fn open_therms(&self) -> NetTherms
         requires { length self.now.closings ≤ 12 }
         ensures { result.count ≡ open_therms (year_by not_opened self.now) }

@@ -17,7 +17,8 @@ account_values NotEarliest = (24, None)
 account_values LacksDay = (25, None)
 account_values SettledAlready = (26, None)
 account_values InterimOpen = (27, None)
-account_values (Schedule fault) = let v : ℕ × PriceValues = schedule_values fault in (v.0, Some v.1)
+account_values (Schedule fault) =
+    let v : ℕ × PriceValues = schedule_values fault in (v.0, Some v.1)
 account_values NoRoom = (29, None)
 account_values NoLine = (30, None)
 

@@ -66,7 +66,8 @@ interim_lines o lines = sum_where (λ h. is_interim o (heading_month h)) money_o
 -- what all items of all interim months cost at an increase
 -- priced: each of them has a price that is an amount, and no fault
 -- whole: these amounts add up to the total
-pub record InterimCosts (s : Tariff) (y : Year) (o : Opening) (increase : ℕ) (total : ℤ) : Type 0 where
+pub record InterimCosts (s : Tariff) (y : Year) (o : Opening) (increase : ℕ) (total : ℤ)
+    : Type 0 where
   pub amount : ℕ → Item → ℤ
   pub priced :
       (month : ℕ) (item : Item) → is_interim o month ≡ true →
@@ -79,7 +80,8 @@ pub record InterimCosts (s : Tariff) (y : Year) (o : Opening) (increase : ℕ) (
 -- interim: the interim price, at the opening's increase
 -- final: the final price, at the settlement's
 -- lesser: what stands under the interim months and under the refund is the lesser of the two
-pub record SettlesUp (s : Tariff) (y : Year) (lines : List Line) (o : Opening) (t : Settlement) : Type 0 where
+pub record SettlesUp (s : Tariff) (y : Year) (lines : List Line) (o : Opening) (t : Settlement)
+    : Type 0 where
   pub some : o.first ≤ o.last
   pub of_year : o.last ≤ last_month
   pub closed : (month : ℕ) → is_interim o month ≡ true → month < length y.closings

@@ -5,6 +5,8 @@ ghost use Rattle.history.specs.declared.faults.AccountFault.TheVariants.{Input, 
 
 use gas::{InputFault, PriceValues, ScheduleFault};
 
+/// Why an account refuses a call or a question: a number of the input, what the account knows, or a
+/// price (`docs/ACCOUNT.md`).
 #[derive(Clone, Copy, Debug, PartialEq, Eq)]
 pub enum AccountFault {
     Input(InputFault),
@@ -23,7 +25,7 @@ pub enum AccountFault {
 }
 
 impl AccountFault {
-    // By cases, since two of them carry the fault whose number they have.
+    /// The number of the refusal (`docs/ACCOUNT.md`).
     pub fn number(self) -> u8
         ensures { result ≡ account_number self }
     {

@@ -26,7 +26,8 @@ fn next_record(reader: &mut Reader) -> Result<Option<Placed>, JournalFault>
 }
 
 impl<S: Schedule> Account<S> {
-    // Takes in a record of a journal with its place, which comes with a refusal. By this call and a reader a journal is played without a heap.
+    /// Takes in a record of a journal, and answers nothing or its refusal with the record's byte
+    /// place. With a reader it plays a journal without a heap (`docs/ACCOUNT.md`).
     pub fn enter_placed(&mut self, placed: &Placed) -> Result<(), JournalFault>
         ensures answers { result ≡ entered_at placed.now.place (refusal_by (tariff_by (S.unauthorized self.old.schedule) (S.price self.old.schedule)) (call_of placed.now.«record») self.old.state) }
         ensures leaves { self.new.state ≡ left_by (tariff_by (S.unauthorized self.old.schedule) (S.price self.old.schedule)) (call_of placed.now.«record») self.old.state }
@@ -38,7 +39,12 @@ impl<S: Schedule> Account<S> {
         Ok(())
     }
 
-    // Plays every record of a journal in order. The refused ones are answered by their number and place, and passed over; one that cannot be read is the last. The law of all runs stands here: whole, and of this account by every history that it goes on from.
+    /// Plays every record of a journal in order. A record that is refused is passed over and
+    /// answered with its number and place; one that cannot be read is the last. Fails only where
+    /// there is no memory for the refusals, and then plays nothing (`docs/ACCOUNT.md`).
+    ///
+    /// The law of all runs stands here: whole, and of this account by every history that it goes on
+    /// from (`docs/HISTORY.md`).
     pub fn play(&mut self, heap: Global, journal: &[u8]) -> Result<Vec<Refusal>, AllocError>
         ensures played { IfOk result (λ refusals. Played (tariff_by (S.unauthorized self.old.schedule) (S.price self.old.schedule)) journal.now self.old.state self.new.state (vec_items refusals)) }
         ensures schedule { self.new.schedule ≡ self.old.schedule }

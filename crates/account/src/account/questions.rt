@@ -1,17 +1,20 @@
 // What an account answers to questions, of which none changes it.
 ghost use Rattle.std.specs.Prelude.{◌≡◌, ◌≤◌, length};
 ghost use Rattle.history.specs.Calls.{most_lines};
-ghost use Rattle.history.specs.Prices.{open_therms, tariff_by};
+ghost use Rattle.history.specs.Prices.{open_therms};
 ghost use Rattle.history.specs.Questions.{PeakAnswer, line_numbered, sum_of_all};
-ghost use Rattle.history.specs.Runs.{AddsUp, History, Run, RunsAddUp, known};
+ghost use Rattle.history.specs.Runs.{RunsAddUp};
 ghost use Rattle.history.specs.Year.{Complete};
+ghost use Rattle.account.specs.Histories.{AddsUpByItsHistories};
 
 use crate::account::Account;
 use gas::{Millicents, Month, Schedule};
 use history::{AccountFault, Line, NetTherms};
 
 impl<S: Schedule> Account<S> {
-    // How many lines there are; and what is true of every account: the months closed are the first ones, with all their days posted, and the lines are no more than there is room for.
+    /// How many lines there are; and what is true of every account: the months closed are the first
+    /// ones, with all their days posted, and the lines are no more than there is room for
+    /// (`docs/ACCOUNT.md`).
     pub fn line_count(&self) -> usize
         ensures is { result ≡ length self.now.state.lines }
         ensures room { length self.now.state.lines ≤ most_lines }
@@ -21,30 +24,34 @@ impl<S: Schedule> Account<S> {
         self.book.line_count()
     }
 
-    // The line of a number, counted from 1.
+    /// The line of a number, counted from 1; refused with 30 where none has it (`docs/ACCOUNT.md`).
     pub fn line(&self, number: usize) -> Result<Line, AccountFault>
         ensures { result ≡ line_numbered self.now.state.lines number }
     {
         self.book.line(number)
     }
 
-    // What all lines add up to in money.
+    /// What all lines add up to, in millicents (`docs/ACCOUNT.md`).
     pub fn total(&self) -> Millicents
         ensures { result.amount ≡ sum_of_all self.now.state.lines }
     {
         self.book.total()
     }
 
-    // Receipts less readings of the posted days of open months; and the law of all runs, of every account that the definitions make, and of this one by every history that has made it.
+    /// Receipts less readings of the posted days of open months, in therms (`docs/ACCOUNT.md`).
+    ///
+    /// The law of all runs stands here: whole, and of this account by every history that has made
+    /// it (`docs/HISTORY.md`).
     pub fn open_therms(&self) -> NetTherms
         ensures is { result.count ≡ open_therms self.now.state.year }
         ensures law { RunsAddUp }
-        ensures adds_up { (h : History) → Run (tariff_by (S.unauthorized self.now.schedule) (S.price self.now.schedule)) h self.now.state → AddsUp (tariff_by (S.unauthorized self.now.schedule) (S.price self.now.schedule)) (known h) self.now.state result.count }
+        ensures adds_up { AddsUpByItsHistories S.unauthorized S.price self.now result.count }
     {
         self.book.open_therms()
     }
 
-    // A day of a month that no other of its days exceeds in its reading, if a day of it is posted.
+    /// A day of a month, counted from 1, that no other of its days exceeds in its reading, if a day
+    /// of it is posted; refused with 20 before the opening, then with 3 (`docs/ACCOUNT.md`).
     pub fn peak_day(&self, month: u8) -> Result<Option<u8>, AccountFault>
         ensures { PeakAnswer self.now.state.year month result }
     {
