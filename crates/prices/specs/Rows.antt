@@ -18,7 +18,9 @@ amount_text n item z = decimal n ++ (codes " " ++ (decimal (item_number item) ++
 
 -- a fault's number, month, item and layer
 abbrev pub values_text : ℕ × PriceValues → List ℕ
-values_text v = decimal v.0 ++ (codes " " ++ (decimal v.1.month ++ (codes " " ++ (decimal v.1.item ++ (codes " " ++ decimal v.1.layer)))))
+values_text v =
+    decimal v.0 ++ (codes " " ++
+    (decimal v.1.month ++ (codes " " ++ (decimal v.1.item ++ (codes " " ++ decimal v.1.layer)))))
 
 -- the case, the item and the fault
 abbrev pub refusal_text : ℕ → Item → ScheduleFault → List ℕ

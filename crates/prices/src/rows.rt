@@ -6,7 +6,7 @@ ghost use Rattle.prices.specs.Rows.{answer_text};
 use gas::{Item, Millicents, PriceValues, ScheduleFault};
 use std::fmt;
 
-// What an item costs in a case, or why it has no price.
+/// What an item costs in a case, or why it has no price; shown as a row of `docs/TARIFF.md`.
 #[derive(Clone, Copy)]
 pub struct Row {
     pub case: u8,
