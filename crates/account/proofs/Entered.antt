@@ -4,7 +4,7 @@ use Rattle.gas.specs.declared.day.DayRecord.{DayRecord}
 use Rattle.gas.specs.declared.items.Item.{Item}
 use Rattle.gas.specs.Facts.{MonthFacts}
 use Rattle.gas.specs.Limits.{Answer}
-use Rattle.history.specs.declared.faults.AccountFault.TheVariants as fault
+use Rattle.ledger.specs.declared.faults.AccountFault.TheVariants as fault
 use Rattle.book.specs.Books.{Contents, state_of}
 use Rattle.account.specs.Calls.{Called}
 use Rattle.account.specs.Holdings.{Holding}

@@ -4,15 +4,15 @@ use Rattle.std.specs.Result.{IsErr, IsErrAnd}
 use Rattle.gas.specs.declared.day.DayRecord.{DayRecord}
 use Rattle.gas.specs.declared.items.Item.{Item}
 use Rattle.gas.specs.Facts.{MonthFacts}
-use Rattle.gas.specs.Inputs.{first_failing, mark_number}
+use Rattle.gas.specs.Inputs.{first_failure, mark_number}
 use Rattle.gas.proofs.Made.{same_mark}
 use Rattle.gas.specs.Limits.{Answer}
-use Rattle.history.specs.declared.faults.AccountFault.{AccountFault}
-use Rattle.history.specs.declared.faults.AccountFault.TheVariants as fault
-use Rattle.history.specs.Calls.{Call, learned, most_lines, opening, opening_input, tests}
-use Rattle.history.specs.Prices.{Tariff, tariff_by}
-use Rattle.history.specs.Year.{Opening, is_opened, running}
-use Rattle.book.specs.Books.{Contents, begun, state_of}
+use Rattle.ledger.specs.declared.faults.AccountFault.{AccountFault}
+use Rattle.ledger.specs.declared.faults.AccountFault.TheVariants as fault
+use Rattle.ledger.specs.Calls.{Call, year_after, most_lines, opening, opening_input, tests}
+use Rattle.ledger.specs.Prices.{Tariff, tariff_by}
+use Rattle.ledger.specs.Year.{Opening, is_opened, running}
+use Rattle.book.specs.Books.{Contents, begun_book, state_of}
 use Rattle.book.proofs.Outcomes.{fits, passed}
 use Rattle.account.specs.Calls.{Called}
 use Rattle.account.specs.Holdings.{Holding}
@@ -32,19 +32,19 @@ module _ {S : Type 0} (unauthorized : S → DayRecord → ℕ) (price : S → Mo
 
   module _ (new : at ≡ code.TheVariants.NotOpened) where
     -- before the opening only its numbers are tested
-    tested : first_failing (tests (opening leap (record { increase = increase; first = first; last = last })) a.state.year) ≡ first_failing (opening_input leap (record { increase = increase; first = first; last = last }))
+    tested : first_failure (tests (opening leap (record { increase = increase; first = first; last = last })) a.state.year) ≡ first_failure (opening_input leap (record { increase = increase; first = first; last = last }))
     tested = rw (sym same, new) refl
 
-    pub opening_refused : (r : Result (Unit {0}) AccountFault) (f : AccountFault) → IsErr r → IsErrAnd r (λ e. e ≡ f) → Some f ≡ first_failing (opening_input leap (record { increase = increase; first = first; last = last })) →
+    pub opening_refused : (r : Result (Unit {0}) AccountFault) (f : AccountFault) → IsErr r → IsErrAnd r (λ e. e ≡ f) → Some f ≡ first_failure (opening_input leap (record { increase = increase; first = first; last = last })) →
         Called unauthorized price a (opening leap (record { increase = increase; first = first; last = last })) r a
     opening_refused r f is one e = handed_on unauthorized price a _ r f is one (tested ∙ sym e)
 
-    pub opens : (marked : Bool) (o : Opening) (after : Contents) → None ≡ first_failing (opening_input leap (record { increase = increase; first = first; last = last })) → mark_number marked ≡ leap → o ≡ record { increase = increase; first = first; last = last } →
-        after ≡ begun b marked → length after.lines ≤ most_lines →
+    pub opens : (marked : Bool) (o : Opening) (after : Contents) → None ≡ first_failure (opening_input leap (record { increase = increase; first = first; last = last })) → mark_number marked ≡ leap → o ≡ record { increase = increase; first = first; last = last } →
+        after ≡ begun_book b marked → length after.lines ≤ most_lines →
         Called unauthorized price a (opening leap (record { increase = increase; first = first; last = last })) (Ok tt) (record { schedule = sch; state = state_of (running o) after })
     opens marked o after e mark terms is room =
         let c : Call = opening leap (record { increase = increase; first = first; last = last }) in
         let s : Tariff = tariff_by (unauthorized a.schedule) (price a.schedule) in
         let lines : a.state.lines ≡ after.lines = rw (is, sym same) refl in
         let all : length a.state.lines + 0 ≤ most_lines = rw lines (omega arith) in
-        accepted unauthorized price a c _ (passed s c a.state (tested ∙ sym e) ∙ fits (learned c a.state.year) a.state.lines [] all ∙ rw (is, terms, sym same, append-nil b.lines, sym mark, same_mark marked) refl) (ap (λ (h : Holding S). h.schedule) same)
+        accepted unauthorized price a c _ (passed s c a.state (tested ∙ sym e) ∙ fits (year_after c a.state.year) a.state.lines [] all ∙ rw (is, terms, sym same, append-nil b.lines, sym mark, same_mark marked) refl) (ap (λ (h : Holding S). h.schedule) same)

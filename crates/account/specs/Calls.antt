@@ -5,10 +5,10 @@ use Rattle.gas.specs.declared.day.DayRecord.{DayRecord}
 use Rattle.gas.specs.declared.items.Item.{Item}
 use Rattle.gas.specs.Facts.{MonthFacts}
 use Rattle.gas.specs.Limits.{Answer}
-use Rattle.history.specs.declared.faults.AccountFault.{AccountFault}
-use Rattle.history.specs.Calls.{Call}
-use Rattle.history.specs.Prices.{tariff_by}
-use Rattle.history.specs.Runs.{Step}
+use Rattle.ledger.specs.declared.faults.AccountFault.{AccountFault}
+use Rattle.ledger.specs.Calls.{Call}
+use Rattle.ledger.specs.Prices.{tariff_by}
+use Rattle.ledger.specs.Runs.{Step}
 use Rattle.account.specs.Holdings.{Holding}
 
 -- step: on the tariff of the account's schedule, the answer and what the account then knows and has written are those of the call's outcome

@@ -4,8 +4,8 @@ use Rattle.gas.specs.declared.day.DayRecord.{DayRecord}
 use Rattle.gas.specs.declared.items.Item.{Item}
 use Rattle.gas.specs.Facts.{MonthFacts}
 use Rattle.gas.specs.Limits.{Answer}
-use Rattle.history.specs.Prices.{Tariff, tariff_by}
-use Rattle.history.specs.Runs.{AddsUp, History, Run, known}
+use Rattle.ledger.specs.Prices.{Tariff, tariff_by}
+use Rattle.ledger.specs.Runs.{AddsUp, History, Run, known}
 use Rattle.account.specs.Holdings.{Holding}
 
 -- by every history that has made an account, the law holds of it, with the therms it says are open

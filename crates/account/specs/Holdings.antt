@@ -1,5 +1,5 @@
 -- What an account holds.
-use Rattle.history.specs.Calls.{State}
+use Rattle.ledger.specs.Calls.{State}
 
 -- the schedule that it was made with, and what it knows and has written
 pub record Holding (S : Type 0) : Type 0 where

@@ -2,13 +2,13 @@
 use Rattle.std.specs.Prelude.{ℕ, ◌+◌, List, [], ◌∷◌, ◌++◌, Some, None, Ok, Err, Option, Result}
 use Rattle.std.specs.Result.{result_map_both}
 use Rattle.gas.specs.declared.day.DayNumbers.{DayNumbers}
-use Rattle.history.specs.declared.faults.AccountFault.{AccountFault}
-use Rattle.history.specs.Calls.{Call, State, closing, correction, opening, payment, posting, settling}
-use Rattle.history.specs.Prices.{Tariff}
-use Rattle.history.specs.Runs.{Entry, History, left_by, refusal_by}
+use Rattle.ledger.specs.declared.faults.AccountFault.{AccountFault}
+use Rattle.ledger.specs.Calls.{Call, State, closing, correction, opening, payment, posting, settling}
+use Rattle.ledger.specs.Prices.{Tariff}
+use Rattle.ledger.specs.Runs.{Entry, History, left_by, refusal_by}
 use Rattle.journal.specs.declared.faults.ReadFault.{ReadFault}
 use Rattle.journal.specs.declared.kinds.Day.{Day}
-use Rattle.journal.specs.declared.kinds.Placed.{Placed}
+use Rattle.journal.specs.declared.kinds.Located.{Located}
 use Rattle.journal.specs.declared.kinds.Record.{Record}
 use Rattle.journal.specs.declared.kinds.Record.TheVariants.{Open, Post, Correct, Close, Pay, Settle}
 use Rattle.journal.specs.Format.{record_length}
@@ -43,36 +43,36 @@ abbrev pub entry_of : Tariff → State → Record → Entry
 entry_of s a r = record { call = call_of r; refusal = refusal_by s (call_of r) a }
 
 -- the history of an account after records that were played one after another, each on what the one before had left
-abbrev pub history_after : Tariff → History → State → List Placed → History
+abbrev pub history_after : Tariff → History → State → List Located → History
 history_after s h a [] = h
 history_after s h a (p ∷ ps) = history_after s (entry_of s a p.«record» ∷ h) (left_by s (call_of p.«record») a) ps
 
 -- the account after records that were played one after another
-abbrev pub account_after : Tariff → State → List Placed → State
+abbrev pub account_after : Tariff → State → List Located → State
 account_after s a [] = a
 account_after s a (p ∷ ps) = account_after s (left_by s (call_of p.«record») a) ps
 
--- what a reader at a place answers, a refusal with the place
-abbrev pub read_at : ℕ → Result (Option Placed) ReadFault → Result (Option Placed) JournalFault
-read_at place r = result_map_both (λ next. next) (Unread place) r
+-- what a reader at a offset answers, a refusal with the offset
+abbrev pub read_at : ℕ → Result (Option Located) ReadFault → Result (Option Located) JournalFault
+read_at offset r = result_map_both (λ next. next) (Unread offset) r
 
--- what is answered of a record at a place, by its refusal if it was refused
+-- what is answered of a record at a offset, by its refusal if it was refused
 abbrev pub entered_at : ℕ → Option AccountFault → Result (Unit {0}) JournalFault
-entered_at place None = Ok tt
-entered_at place (Some f) = Err (Refused place f)
+entered_at offset None = Ok tt
+entered_at offset (Some f) = Err (Refused offset f)
 
--- the refusal of record k at a place, if it was refused
+-- the refusal of record k at a offset, if it was refused
 abbrev pub refused_at : ℕ → ℕ → Option AccountFault → List Refusal
-refused_at k place None = []
-refused_at k place (Some f) = record { number = k; fault = Refused place f } ∷ []
+refused_at k offset None = []
+refused_at k offset (Some f) = record { number = k; fault = Refused offset f } ∷ []
 
 -- where reading stopped at record k with a refusal, that one
 abbrev pub unread_at : ℕ → ℕ → Option ReadFault → List Refusal
-unread_at k place None = []
-unread_at k place (Some f) = record { number = k; fault = Unread place f } ∷ []
+unread_at k offset None = []
+unread_at k offset (Some f) = record { number = k; fault = Unread offset f } ∷ []
 
--- the refusals, in order, of records from number k on; place is where the reader stands, for the refusal at which reading stops
-abbrev pub refusals_of : Tariff → ℕ → ℕ → State → List Placed → Option ReadFault → List Refusal
-refusals_of s k place a [] end = unread_at k place end
-refusals_of s k place a (p ∷ ps) end =
-    refused_at k p.place (refusal_by s (call_of p.«record») a) ++ refusals_of s (k + 1) (place + record_length p.«record») (left_by s (call_of p.«record») a) ps end
+-- the refusals, in order, of records from number k on; offset is where the reader stands, for the refusal at which reading stops
+abbrev pub refusals_of : Tariff → ℕ → ℕ → State → List Located → Option ReadFault → List Refusal
+refusals_of s k offset a [] end = unread_at k offset end
+refusals_of s k offset a (p ∷ ps) end =
+    refused_at k p.offset (refusal_by s (call_of p.«record») a) ++ refusals_of s (k + 1) (offset + record_length p.«record») (left_by s (call_of p.«record») a) ps end

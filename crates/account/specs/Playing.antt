@@ -1,10 +1,10 @@
 -- What playing a journal makes of an account, and the law on it.
 use Rattle.std.specs.Prelude.{◌≡◌, ℕ, List, Option}
-use Rattle.history.specs.Calls.{State}
-use Rattle.history.specs.Prices.{Tariff, open_therms}
-use Rattle.history.specs.Runs.{AddsUp, History, Run, known}
+use Rattle.ledger.specs.Calls.{State}
+use Rattle.ledger.specs.Prices.{Tariff, open_therms}
+use Rattle.ledger.specs.Runs.{AddsUp, History, Run, known}
 use Rattle.journal.specs.declared.faults.ReadFault.{ReadFault}
-use Rattle.journal.specs.declared.kinds.Placed.{Placed}
+use Rattle.journal.specs.declared.kinds.Located.{Located}
 use Rattle.journal.specs.Reading.{Gives}
 use Rattle.account.specs.declared.faults.Refusal.{Refusal}
 use Rattle.account.specs.Journals.{account_after, history_after, refusals_of}
@@ -16,7 +16,7 @@ use Rattle.account.specs.Journals.{account_after, history_after, refusals_of}
 -- adds_up: by all these histories the law holds of the account after, with its open therms; this
 --   follows from run
 pub record Played (s : Tariff) (bytes : List ℕ) (a b : State) (refusals : List Refusal) : Type 0 where
-  pub records : List Placed
+  pub records : List Located
   pub end : Option ReadFault
   pub given : Gives bytes 0 records end
   pub account : b ≡ account_after s a records

@@ -1,6 +1,6 @@
 // The account of one gas year of one meter, over any schedule.
 ghost use Rattle.std.specs.Prelude.{◌≡◌, length};
-ghost use Rattle.history.specs.Runs.{new_state};
+ghost use Rattle.ledger.specs.Runs.{new_state};
 
 mod calls;
 mod playing;

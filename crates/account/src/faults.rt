@@ -1,14 +1,14 @@
 // Why a record of a journal is refused, and the number of each refusal.
 use gas::PriceValues;
-use history::AccountFault;
+use ledger::AccountFault;
 use journal::ReadFault;
 
 /// Why a record of a journal is refused: it could not be read, or the account refused it, whole as
-/// it is told here. Either comes with the byte place of the record (`docs/ACCOUNT.md`).
+/// it is told here. Either comes with the byte offset of the record (`docs/ACCOUNT.md`).
 #[derive(Clone, Copy, Debug, PartialEq, Eq)]
 pub enum JournalFault {
-    Unread { place: usize, fault: ReadFault },
-    Refused { place: usize, fault: AccountFault },
+    Unread { offset: usize, fault: ReadFault },
+    Refused { offset: usize, fault: AccountFault },
 }
 
 /// A refused record of a journal, by its number counted from 1 (`docs/ACCOUNT.md`).
@@ -32,16 +32,16 @@ impl JournalFault {
         }
     }
 
-    /// The byte place of the record in the journal.
-    pub fn place(self) -> usize
+    /// The byte offset of the record in the journal.
+    pub fn offset(self) -> usize
         ensures { result ≡ (journal_values self).1 }
     {
         match self {
-            JournalFault::Unread { place, .. } | JournalFault::Refused { place, .. } => place,
+            JournalFault::Unread { offset, .. } | JournalFault::Refused { offset, .. } => offset,
         }
     }
 
-    /// The number of the refusal and the byte place of the record, with the values of the account's
+    /// The number of the refusal and the byte offset of the record, with the values of the account's
     /// refusal if it has any (`docs/ACCOUNT.md`).
     pub fn values(self) -> (u8, usize, Option<PriceValues>)
         ensures { result ≡ journal_values self }
@@ -50,30 +50,30 @@ impl JournalFault {
             JournalFault::Unread { .. } => None,
             JournalFault::Refused { fault, .. } => fault.values().1,
         };
-        (self.number(), self.place(), values)
+        (self.number(), self.offset(), values)
     }
 }
 
-// What a reader refuses at a place.
+// What a reader refuses at a offset.
 impl From<(usize, ReadFault)> for JournalFault {
     ghost use Rattle.std.specs.Prelude.{◌≡◌};
     ghost use Rattle.account.specs.declared.faults.JournalFault.TheVariants.{Unread};
 
     ghost from_gives = { λ e r. r ≡ Unread e.0 e.1 };
 
-    fn from((place, fault): (usize, ReadFault)) -> JournalFault {
-        JournalFault::Unread { place, fault }
+    fn from((offset, fault): (usize, ReadFault)) -> JournalFault {
+        JournalFault::Unread { offset, fault }
     }
 }
 
-// What an account refuses of a record at a place.
+// What an account refuses of a record at a offset.
 impl From<(usize, AccountFault)> for JournalFault {
     ghost use Rattle.std.specs.Prelude.{◌≡◌};
     ghost use Rattle.account.specs.declared.faults.JournalFault.TheVariants.{Refused};
 
     ghost from_gives = { λ e r. r ≡ Refused e.0 e.1 };
 
-    fn from((place, fault): (usize, AccountFault)) -> JournalFault {
-        JournalFault::Refused { place, fault }
+    fn from((offset, fault): (usize, AccountFault)) -> JournalFault {
+        JournalFault::Refused { offset, fault }
     }
 }

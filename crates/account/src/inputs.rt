@@ -2,17 +2,18 @@
 ghost use Rattle.std.specs.Prelude.{◌≡◌, ℕ, ◌&&◌, [], ◌∷◌, IfOk, nat_le};
 ghost use Rattle.std.specs.Result.{result_err};
 ghost use Rattle.gas.specs.declared.faults.InputFault.TheVariants as faults;
-ghost use Rattle.gas.specs.Inputs.{first_failing, last_month, mark_number, read, unless};
-ghost use Rattle.history.specs.Calls.{opening_input, settlement_input};
+ghost use Rattle.gas.specs.Inputs.{first_failure, mark_number, answer_by, value_if};
+ghost use Rattle.ledger.specs.Calls.{opening_input, settlement_input};
 ghost use Rattle.book.specs.Terms.{opening_numbers, settlement_numbers};
+ghost use Rattle.gas.specs.declared.calendar.TheConstants.{LAST_MONTH};
 
 use book::{OpeningTerms, SettlementTerms};
 use gas::{InputFault, Month, PerMille, mark};
-use history::AccountFault;
+use ledger::AccountFault;
 
 // The first and the last interim month; refused where one is above 11, or the first comes after the last.
 fn interim_months(first: u8, last: u8) -> Result<(Month, Month), InputFault>
-    ensures { read {B = ℕ × ℕ} (λ months. (months.0.number, months.1.number)) result ≡ unless (nat_le last last_month && nat_le first last) faults.Month (first, last) }
+    ensures { answer_by {B = ℕ × ℕ} (λ months. (months.0.number, months.1.number)) result ≡ value_if (nat_le last LAST_MONTH && nat_le first last) faults.Month (first, last) }
 {
     if first > last {
         return Err(InputFault::Month);
@@ -27,7 +28,7 @@ pub fn opening_terms(
     first: u8,
     last: u8,
 ) -> Result<(bool, OpeningTerms), AccountFault>
-    ensures refused { result_err result ≡ first_failing (opening_input leap (record { increase = increase; first = first; last = last })) }
+    ensures refused { result_err result ≡ first_failure (opening_input leap (record { increase = increase; first = first; last = last })) }
     ensures leap { IfOk result (λ o. mark_number o.0 ≡ leap) }
     ensures terms { IfOk result (λ o. opening_numbers o.1 ≡ record { increase = increase; first = first; last = last }) }
 {
@@ -44,7 +45,7 @@ pub fn opening_terms(
 
 // The terms of a settlement, or the refusal of an increase or an interest above 1,000.
 pub fn settlement_terms(final_increase: u16, interest: u16) -> Result<SettlementTerms, AccountFault>
-    ensures refused { result_err result ≡ first_failing (settlement_input (record { final_increase = final_increase; interest = interest }) ∷ []) }
+    ensures refused { result_err result ≡ first_failure (settlement_input (record { final_increase = final_increase; interest = interest }) ∷ []) }
     ensures terms { IfOk result (λ t. settlement_numbers t ≡ record { final_increase = final_increase; interest = interest }) }
 {
     Ok(SettlementTerms {

@@ -1,11 +1,11 @@
 // Where an account stands.
 ghost use Rattle.std.specs.Prelude.{◌≡◌};
-ghost use Rattle.gas.specs.Inputs.{read};
+ghost use Rattle.gas.specs.Inputs.{answer_by};
 ghost use Rattle.book.specs.Terms.{standing_of};
 
 use book::{OpeningTerms, SettlementTerms, Terms};
 use gas::{Month, PerMille};
-use history::AccountFault;
+use ledger::AccountFault;
 
 // With the numbers that the opening and the settlement said, each in the struct round a number that keeps its limit: a variant has no ghost fields.
 #[derive(Clone, Copy)]
@@ -26,11 +26,11 @@ pub enum Standing {
 }
 
 impl Standing {
-    ghost use Rattle.account.specs.Standings.{if_opened, standing_now};
+    ghost use Rattle.account.specs.Standings.{opened_standing, standing_now};
 
     // What an opened account was opened and settled with; refused before the opening.
     pub fn terms(self) -> Result<Terms, AccountFault>
-        ensures { read standing_of result ≡ if_opened (standing_now self) }
+        ensures { answer_by standing_of result ≡ opened_standing (standing_now self) }
     {
         match self {
             Standing::NotOpened => Err(AccountFault::NotOpened),

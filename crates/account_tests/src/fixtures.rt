@@ -1,13 +1,13 @@
 // What the tests share: schedules, days, and calls that are made and looked at.
 use account::Account;
 use gas::{ClosingNumbers, DayNumbers, Rate, Schedule, Therms};
-use history::AccountFault;
+use ledger::AccountFault;
 use journal::{Day, Record};
 use pipelines::Northern;
 use riders::Affordability;
 use std::ops::Range;
 use std::process::Abort;
-use tariff::{Class, SmallDualFuel};
+use classes::{Class, SmallDualFuel};
 
 pub type Small = Class<SmallDualFuel, Northern>;
 

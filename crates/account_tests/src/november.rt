@@ -2,7 +2,7 @@
 use crate::fixtures::{QUIET, SMALL, Written, answers, closing, ends_with, even, post, posting};
 use account::Account;
 use gas::{ClosingNumbers, DayNumbers, PerMille, Schedule};
-use history::AccountFault;
+use ledger::AccountFault;
 use journal::{Day, Record};
 use riders::{Franchise, Interim, Rider};
 use std::test::Fail;

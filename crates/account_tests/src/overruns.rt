@@ -4,7 +4,7 @@ use crate::fixtures::{
 };
 use account::{Account, JournalFault};
 use gas::{Item, Layer, PerMille, PriceValues, Schedule, ScheduleFault};
-use history::AccountFault;
+use ledger::AccountFault;
 use journal::{Day, Record};
 use riders::{Franchise, Interim, Rider};
 use std::process::Abort;

@@ -3,26 +3,26 @@ use crate::fixtures::{SMALL, answers, closing, ends_with, even, posting};
 use crate::november::{CORRECTION, FRANCHISE, LINES, OPENING, SETTLING};
 use account::{Account, JournalFault};
 use gas::Schedule;
-use history::AccountFault;
-use journal::{Placed, Reader, Record, write};
+use ledger::AccountFault;
+use journal::{Located, Reader, Record, write};
 use riders::{Interim, Rider};
 use std::alloc::Global;
 use std::process::Abort;
 use std::test::Fail;
 
-// Plays a journal. What is refused has its number, its place and the number of the refusal.
+// Plays a journal. What is refused has its number, its offset and the number of the refusal.
 fn plays<S: Schedule>(
     rt: &impl Abort,
-    heap: Global,
+    alloc: Global,
     account: &mut Account<S>,
     journal: &[u8],
     refused: &[(usize, usize, u8)],
 ) -> Result<(), Fail> {
-    let refusals = account.play(heap, journal)?;
+    let refusals = account.play(alloc, journal)?;
     assert_eq!(rt; refusals.len(), refused.len());
     for (refusal, wanted) in refusals.iter().zip(refused) {
         let fault = refusal.fault;
-        assert_eq!(rt; (refusal.number, fault.place(), fault.number()), *wanted);
+        assert_eq!(rt; (refusal.number, fault.offset(), fault.number()), *wanted);
     }
     Ok(())
 }
@@ -60,7 +60,7 @@ fn playing_stops_at_an_unknown_kind(rt: HostRuntime) -> Result<(), Fail> {
         b"\x01\x00\x89\x00\x00\x00\x05\x05\x00\x00\x00\x00\x00\x00\x00\x07\x05\x05\x00\x00\x00\x00\x00\x00\x00";
     plays(&rt, rt.alloc(), &mut account, journal, &[(3, 15, 1)])?;
     assert_eq!(rt; answers(&account), (1, -5, 0));
-    // another journal goes on where that one stopped, and has numbers and places of its own
+    // another journal goes on where that one stopped, and has numbers and offsets of its own
     plays(
         &rt,
         rt.alloc(),
@@ -82,8 +82,8 @@ fn put(journal: &mut Vec<u8>, record: Record) -> Result<(), Fail> {
 }
 
 // The journal of the worked November, with a correction of a day that is not posted yet and a second closing.
-fn november(heap: Global) -> Result<Vec<u8>, Fail> {
-    let mut journal = Vec::new(heap);
+fn november(alloc: Global) -> Result<Vec<u8>, Fail> {
+    let mut journal = Vec::new(alloc);
     put(&mut journal, OPENING)?;
     put(&mut journal, CORRECTION)?;
     for day in 1..31 {
@@ -101,8 +101,8 @@ fn november(heap: Global) -> Result<Vec<u8>, Fail> {
 fn enter<S: Schedule>(account: &mut Account<S>, journal: &[u8]) {
     let mut reader = Reader::new(journal);
     for _ in 0..40 {
-        if let Ok(Some(placed)) = reader.next() {
-            let _ = account.enter_placed(&placed);
+        if let Ok(Some(located)) = reader.next() {
+            let _ = account.enter_located(&located);
         }
     }
 }
@@ -110,20 +110,20 @@ fn enter<S: Schedule>(account: &mut Account<S>, journal: &[u8]) {
 #[test]
 fn a_refusal_has_the_place_that_came_with_the_record(rt: HostRuntime) {
     let mut account = Account::new(SMALL);
-    let placed = Placed {
-        place: 6,
+    let located = Located {
+        offset: 6,
         record: OPENING,
     };
     let refused = JournalFault::Refused {
-        place: 6,
+        offset: 6,
         fault: AccountFault::OpenedAlready,
     };
-    assert_eq!(rt; account.enter_placed(&placed), Ok(()));
-    assert_eq!(rt; account.enter_placed(&placed), Err(refused));
-    assert_eq!(rt; (refused.number(), refused.place()), (21, 6));
+    assert_eq!(rt; account.enter_located(&located), Ok(()));
+    assert_eq!(rt; account.enter_located(&located), Err(refused));
+    assert_eq!(rt; (refused.number(), refused.offset()), (21, 6));
 }
 
-// The places are 6 for the opening, and 6 + 31 × 29 + 14 for all up to the first closing.
+// The offsets are 6 for the opening, and 6 + 31 × 29 + 14 for all up to the first closing.
 #[test]
 fn the_same_as_record_by_record(rt: HostRuntime) -> Result<(), Fail> {
     let journal = november(rt.alloc())?;

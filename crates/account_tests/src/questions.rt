@@ -4,7 +4,7 @@ use crate::fixtures::{
 };
 use account::Account;
 use gas::Schedule;
-use history::AccountFault;
+use ledger::AccountFault;
 use journal::{Day, Record};
 
 // The peak day of a month, or the number of the refusal.
@@ -73,7 +73,7 @@ fn of_equal_peaks(rt: HostRuntime) {
         receipts: 100,
         ..even(0, 3, 10)
     };
-    accepts(&rt, &mut account, posting(received));
+    accepts(&rt, &mut account, posting(receipts_of));
     accepts(&rt, &mut account, posting(even(0, 4, 20)));
     accepts(&rt, &mut account, posting(even(0, 9, 20)));
     let answer = peak(&account, 0);

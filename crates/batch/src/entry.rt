@@ -7,11 +7,11 @@ use std::alloc::Global;
 use std::fmt;
 
 // A row with the name of a journal's file, and what `lines` prints of the journal.
-pub fn output(heap: Global, name: &str, journal: Option<Vec<u8>>) -> Result<String, fmt::Error>
+pub fn output(alloc: Global, name: &str, journal: Option<Vec<u8>>) -> Result<String, fmt::Error>
     ensures { IfOk result (λ text. PrintsNamed name.now (option_map vec_items journal) (string_bytes text)) }
 {
-    let mut text = String::new(heap);
+    let mut text = String::new(alloc);
     writeln!(text, "journal {name}")?;
-    write!(text, "{}", report::output(heap, journal)?)?;
+    write!(text, "{}", report::output(alloc, journal)?)?;
     Ok(text)
 }

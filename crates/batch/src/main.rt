@@ -9,11 +9,11 @@ use journal::load;
 use std::{env, fs};
 
 fn main(rt: HostRuntime) -> anyhow::Result<()> {
-    let heap = rt.alloc();
+    let alloc = rt.alloc();
     for name in env::args(&rt)?.skip(1) {
         let file = fs::open(&rt, name.as_str()).context(name.as_str())?;
-        let journal = load(heap, file).context(name.as_str())?;
-        rt.print(output(heap, &name, journal)?)?;
+        let journal = load(alloc, file).context(name.as_str())?;
+        rt.print(output(alloc, &name, journal)?)?;
     }
     Ok(())
 }

@@ -5,14 +5,14 @@ use Rattle.std.proofs.lemmas.Bool.Decides.{nat_tests}
 use Rattle.gas.specs.declared.faults.InputFault.{InputFault}
 use Rattle.gas.specs.declared.faults.InputFault.TheVariants as input
 use Rattle.gas.specs.declared.month.ClosingNumbers.{ClosingNumbers}
-use Rattle.gas.specs.Inputs.{checked_closing, checked_month, first_failing, is_lawful_closing}
-use Rattle.history.specs.declared.faults.AccountFault.TheVariants as fault
-use Rattle.history.specs.declared.lines.Line.{Line}
-use Rattle.history.specs.Calls.{by_account, closing, outcome, tests, with_lines}
-use Rattle.history.specs.Days.{is_complete}
-use Rattle.history.specs.Due.{due_in}
-use Rattle.history.specs.Prices.{Tariff}
-use Rattle.history.specs.Year.{Standing, is_opened}
+use Rattle.gas.specs.Inputs.{checked_closing, checked_month, first_failure, is_lawful_closing}
+use Rattle.ledger.specs.declared.faults.AccountFault.TheVariants as fault
+use Rattle.ledger.specs.declared.lines.Line.{Line}
+use Rattle.ledger.specs.Calls.{by_account, closing, outcome, tests, with_lines}
+use Rattle.ledger.specs.Days.{is_complete}
+use Rattle.ledger.specs.Due.{lines_due_in}
+use Rattle.ledger.specs.Prices.{Tariff}
+use Rattle.ledger.specs.Year.{Standing, is_opened}
 use Rattle.book.specs.declared.year.MeterYear.{MeterYear}
 use Rattle.book.specs.Books.{Contents, state_of, with_closings}
 use Rattle.book.specs.Years.{year_by}
@@ -33,7 +33,7 @@ module _ (y : MeterYear) (lines : List Line) (b : Contents) (same : record { yea
         refused s (closing month n) (state_of t b) (fault.Input f) (rw (opened, first.0, test.0, test.1) refl)
 
     module _ (c : ClosingNumbers) (of_rates : Ok c ≡ checked_closing n) where
-      lawful_input : first_failing (tests (closing month n) (year_by t b.year)) ≡ first_failing ((eqb m (length b.year.closings), fault.NotEarliest) ∷ (is_complete b.year.leap b.year.days m, fault.LacksDay) ∷ [])
+      lawful_input : first_failure (tests (closing month n) (year_by t b.year)) ≡ first_failure ((eqb m (length b.year.closings), fault.NotEarliest) ∷ (is_complete b.year.leap b.year.days m, fault.LacksDay) ∷ [])
       lawful_input =
           let first = taken (leb month 11) input.Month m month of_month in
           let second = taken (is_lawful_closing n) input.Quantity c n of_rates in
@@ -48,14 +48,14 @@ module _ (y : MeterYear) (lines : List Line) (b : Contents) (same : record { yea
       lacks_day next lacks = refused s (closing month n) (state_of t b) fault.LacksDay (lawful_input ∙ rw (sym same, lacks, eq-eqb _ _ next) refl)
 
       pub closed : (put : Contents) → m ≡ length y.closings → is_complete y.leap y.days m ≡ true → put ≡ with_closings b (b.year.closings ++ c ∷ []) →
-          with_lines (year_by t put.year) put.lines (by_account (due_in s (year_by t put.year) put.lines)) ≡ outcome s (closing month n) (state_of t b)
+          with_lines (year_by t put.year) put.lines (by_account (lines_due_in s (year_by t put.year) put.lines)) ≡ outcome s (closing month n) (state_of t b)
       closed put next complete is_put =
-          let passes : first_failing (tests (closing month n) (year_by t b.year)) ≡ None = lawful_input ∙ rw (sym same, complete, eq-eqb _ _ next) refl in
+          let passes : first_failure (tests (closing month n) (year_by t b.year)) ≡ None = lawful_input ∙ rw (sym same, complete, eq-eqb _ _ next) refl in
           rw is_put (sym (passed s (closing month n) (state_of t b) passes ∙ rw (sym (taken (is_lawful_closing n) input.Quantity c n of_rates).1) refl))
 
 -- a book with its last month open again is the one before
-pub reopened : (b put brought after : Contents) (c : ClosingNumbers) → put ≡ with_closings b (b.year.closings ++ c ∷ []) → brought ≡ put → after ≡ with_closings brought (take (length brought.year.closings - 1) brought.year.closings) → after ≡ b
-reopened b put brought after c one two three =
+pub reopened : (b put trued_up after : Contents) (c : ClosingNumbers) → put ≡ with_closings b (b.year.closings ++ c ∷ []) → trued_up ≡ put → after ≡ with_closings trued_up (take (length trued_up.year.closings - 1) trued_up.year.closings) → after ≡ b
+reopened b put trued_up after c one two three =
     let more = length-append b.year.closings (c ∷ []) in
     let n : length (b.year.closings ++ c ∷ []) - 1 ≡ length b.year.closings = omega arith in
     three ∙ rw (two, one, n) (ap (λ (cs : List ClosingNumbers). with_closings b cs) (take-append_seam b.year.closings (c ∷ [])))

@@ -4,30 +4,30 @@ use Rattle.std.proofs.lemmas.Bool.Decides.{nat_tests}
 use Rattle.std.specs.Result.{IsErr, IsErrAnd}
 use Rattle.gas.specs.declared.day.DayNumbers.{DayNumbers}
 use Rattle.gas.specs.declared.day.DayRecord.{DayRecord}
-use Rattle.history.specs.declared.faults.AccountFault.{AccountFault}
-use Rattle.history.specs.declared.faults.AccountFault.TheVariants as fault
-use Rattle.history.specs.declared.lines.Line.{Line}
-use Rattle.gas.specs.Inputs.{first_failing, read, unless}
+use Rattle.ledger.specs.declared.faults.AccountFault.{AccountFault}
+use Rattle.ledger.specs.declared.faults.AccountFault.TheVariants as fault
+use Rattle.ledger.specs.declared.lines.Line.{Line}
+use Rattle.gas.specs.Inputs.{first_failure, answer_by, value_if}
 use Rattle.gas.specs.Made.{day_of}
-use Rattle.history.specs.Calls.{Call, State, Tests, by_account, correction, day_input, day_tests, learned, most_lines, outcome, posting, tests, with_lines, written}
-use Rattle.history.specs.Days.{Places, place_of}
-use Rattle.history.specs.Due.{due_in}
-use Rattle.history.specs.Prices.{Tariff}
-use Rattle.history.specs.Year.{Opening, Standing, Year, is_opened}
+use Rattle.ledger.specs.Calls.{Call, State, Tests, by_account, correction, day_input, day_tests, year_after, most_lines, outcome, posting, tests, with_lines, lines_of_call}
+use Rattle.ledger.specs.Days.{Places, place_of}
+use Rattle.ledger.specs.Due.{lines_due_in}
+use Rattle.ledger.specs.Prices.{Tariff}
+use Rattle.ledger.specs.Year.{Opening, Standing, Year, is_opened}
 use Rattle.book.specs.Books.{Contents, state_of, with_days}
 use Rattle.book.specs.declared.year.MeterYear.{MeterYear}
 use Rattle.book.specs.declared.terms.SettlementTerms.{SettlementTerms}
-use Rattle.book.specs.Days.{exchanged}
+use Rattle.book.specs.Days.{days_exchanged}
 use Rattle.book.specs.Terms.{standing_by}
 use Rattle.book.specs.Years.{year_by}
 
 -- a call of which a test fails is refused as that test says
-pub refused : (s : Tariff) (c : Call) (a : State) (f : AccountFault) → first_failing (tests c a.year) ≡ Some f → Err f ≡ outcome s c a
+pub refused : (s : Tariff) (c : Call) (a : State) (f : AccountFault) → first_failure (tests c a.year) ≡ Some f → Err f ≡ outcome s c a
 unfolding outcome
 refused s c a f e = rw e refl
 
 -- one of which none fails writes its lines
-pub passed : (s : Tariff) (c : Call) (a : State) → first_failing (tests c a.year) ≡ None → outcome s c a ≡ with_lines (learned c a.year) a.lines (written s c (learned c a.year) a.lines)
+pub passed : (s : Tariff) (c : Call) (a : State) → first_failure (tests c a.year) ≡ None → outcome s c a ≡ with_lines (year_after c a.year) a.lines (lines_of_call s c (year_after c a.year) a.lines)
 unfolding outcome
 passed s c a e = rw e refl
 
@@ -36,7 +36,7 @@ first_of : (b : Bool) (xs ys : Option AccountFault) (f g : AccountFault) → (xs
 first_of true xs ys f g more h = more h
 first_of false xs ys f g more h = h
 
-fails_first : (xs ys : Tests) (f : AccountFault) → first_failing xs ≡ Some f → first_failing (xs ++ ys) ≡ Some f
+fails_first : (xs ys : Tests) (f : AccountFault) → first_failure xs ≡ Some f → first_failure (xs ++ ys) ≡ Some f
 fails_first [] ys f e = absurd cc
 fails_first (x ∷ xs) ys f e = first_of x.0 _ _ f x.1 (fails_first xs ys f) e
 
@@ -44,29 +44,29 @@ later_of : (b : Bool) (xs both ys : Option AccountFault) (g : AccountFault) → 
 later_of true xs both ys g more h = more h
 later_of false xs both ys g more h = absurd cc
 
-fails_later : (xs ys : Tests) → first_failing xs ≡ None → first_failing (xs ++ ys) ≡ first_failing ys
+fails_later : (xs ys : Tests) → first_failure xs ≡ None → first_failure (xs ++ ys) ≡ first_failure ys
 fails_later [] ys e = refl
 fails_later (x ∷ xs) ys e = later_of x.0 _ _ _ x.1 (fails_later xs ys) e
 
 -- what `?` hands on
-pub handed_on : (r : Result (Unit {0}) AccountFault) (x : State) (o : Result State AccountFault) (f : AccountFault) → IsErr r → IsErrAnd r (λ e. e ≡ f) → Err f ≡ o → read (λ _. x) r ≡ o
+pub handed_on : (r : Result (Unit {0}) AccountFault) (x : State) (o : Result State AccountFault) (f : AccountFault) → IsErr r → IsErrAnd r (λ e. e ≡ f) → Err f ≡ o → answer_by (λ _. x) r ≡ o
 handed_on (Ok u) x o f is one h = absurd cc
 handed_on (Err e) x o f is one h = rw one h
 
 -- the tests of a day in an opened account
 module _ (y : Year) (month day : ℕ) (n : DayNumbers) (state : Bool × AccountFault) (opened : is_opened y.standing ≡ true) where
-  day_refused : (f : AccountFault) → first_failing (day_input y.leap month day n) ≡ Some f → first_failing (day_tests y month day n state) ≡ Some f
+  day_refused : (f : AccountFault) → first_failure (day_input y.leap month day n) ≡ Some f → first_failure (day_tests y month day n state) ≡ Some f
   day_refused f e = rw opened (fails_first (day_input y.leap month day n) (state ∷ []) f e)
 
-  day_passed : first_failing (day_input y.leap month day n) ≡ None → first_failing (day_tests y month day n state) ≡ first_failing (state ∷ [])
+  day_passed : first_failure (day_input y.leap month day n) ≡ None → first_failure (day_tests y month day n state) ≡ first_failure (state ∷ [])
   day_passed e = rw opened (fails_later (day_input y.leap month day n) (state ∷ []) e)
 
 -- of a test on a number, the refusal says that it failed, and the number that it passed
-pub untaken : {A F : Type 0} (ok : Bool) (f g : F) (a : A) → Err f ≡ unless ok g a → (ok ≡ false) × (f ≡ g)
+pub untaken : {A F : Type 0} (ok : Bool) (f g : F) (a : A) → Err f ≡ value_if ok g a → (ok ≡ false) × (f ≡ g)
 untaken true f g a e = absurd cc
 untaken false f g a e = (refl, cc)
 
-pub taken : {A F : Type 0} (ok : Bool) (g : F) (m a : A) → Ok m ≡ unless ok g a → (ok ≡ true) × (m ≡ a)
+pub taken : {A F : Type 0} (ok : Bool) (g : F) (m a : A) → Ok m ≡ value_if ok g a → (ok ≡ true) × (m ≡ a)
 taken true g m a e = (refl, cc)
 taken false g m a e = absurd cc
 
@@ -76,11 +76,11 @@ fits y lines more room = let test : leb (length lines + length more) most_lines 
 
 -- a posting, in any account that was opened
 module _ (y : MeterYear) (lines : List Line) (b : Contents) (same : record { year = y; lines = lines } ≡ b) (month day : ℕ) (n : DayNumbers) (s : Tariff) (t : Standing) (opened : is_opened t ≡ true) where
-  pub posting_refused : (f : AccountFault) → Some f ≡ first_failing (day_input y.leap month day n) → Err f ≡ outcome s (posting month day n) (state_of t b)
+  pub posting_refused : (f : AccountFault) → Some f ≡ first_failure (day_input y.leap month day n) → Err f ≡ outcome s (posting month day n) (state_of t b)
   posting_refused f e = rw (sym same) (refused s (posting month day n) (record { year = year_by t y; lines = lines }) f (day_refused (year_by t y) month day n _ opened f (sym e)))
 
-  module _ (place : ℕ) (stands : Option DayRecord) (e : None ≡ first_failing (day_input y.leap month day n)) (at : place ≡ place_of month day) (is : stands ≡ get_or y.days place None) where
-    tested : first_failing (tests (posting month day n) (year_by t y)) ≡ first_failing ((not (is_some stands), fault.PostedAlready) ∷ [])
+  module _ (place : ℕ) (stands : Option DayRecord) (e : None ≡ first_failure (day_input y.leap month day n)) (at : place ≡ place_of month day) (is : stands ≡ get_or y.days place None) where
+    tested : first_failure (tests (posting month day n) (year_by t y)) ≡ first_failure ((not (is_some stands), fault.PostedAlready) ∷ [])
     tested = day_passed (year_by t y) month day n _ opened (sym e) ∙ rw (is, at) refl
 
     pub posted_already : true ≡ is_some stands → Err fault.PostedAlready ≡ outcome s (posting month day n) (state_of t b)
@@ -89,9 +89,9 @@ module _ (y : MeterYear) (lines : List Line) (b : Contents) (same : record { yea
     pub posted : (d : DayRecord) (after : Contents) → false ≡ is_some stands → Ok d ≡ day_of n → length lines ≤ most_lines → after ≡ with_days b (set b.year.days place (Some d)) → Ok (state_of t after) ≡ outcome s (posting month day n) (state_of t b)
     posted d after absent made room left =
         let a : State = record { year = year_by t y; lines = lines } in
-        let passes : first_failing (tests (posting month day n) a.year) ≡ None = tested ∙ rw (sym absent) refl in
+        let passes : first_failure (tests (posting month day n) a.year) ≡ None = tested ∙ rw (sym absent) refl in
         let all : length lines + 0 ≤ most_lines = omega arith in
-        rw (left, sym same) (sym (passed s (posting month day n) a passes ∙ fits (learned (posting month day n) a.year) lines [] all ∙ rw (sym made, at, append-nil lines) refl))
+        rw (left, sym same) (sym (passed s (posting month day n) a passes ∙ fits (year_after (posting month day n) a.year) lines [] all ∙ rw (sym made, at, append-nil lines) refl))
 
 -- an account that has terms was opened
 pub opened_by : (o : Opening) (t : Option SettlementTerms) → is_opened (standing_by o t) ≡ true
@@ -99,7 +99,7 @@ opened_by o None = refl
 opened_by o (Some t) = refl
 
 -- a refusal does not say what was left
-pub refused_alike : (r : Result (Unit {0}) AccountFault) (x y : State) → true ≡ is_err r → read (λ _. x) r ≡ read (λ _. y) r
+pub refused_alike : (r : Result (Unit {0}) AccountFault) (x y : State) → true ≡ is_err r → answer_by (λ _. x) r ≡ answer_by (λ _. y) r
 refused_alike (Ok u) x y e = absurd cc
 refused_alike (Err f) x y e = refl
 
@@ -115,24 +115,24 @@ put_back (x ∷ xs) (suc n) d before e = ap (λ (ds : Places). x ∷ ds) (put_ba
 
 -- a correction, in an account that was opened
 module _ (y : MeterYear) (lines : List Line) (b : Contents) (same : record { year = y; lines = lines } ≡ b) (month day : ℕ) (n : DayNumbers) (s : Tariff) (t : Standing) (opened : is_opened t ≡ true) where
-  pub correction_refused : (f : AccountFault) → Some f ≡ first_failing (day_input y.leap month day n) → Err f ≡ outcome s (correction month day n) (state_of t b)
+  pub correction_refused : (f : AccountFault) → Some f ≡ first_failure (day_input y.leap month day n) → Err f ≡ outcome s (correction month day n) (state_of t b)
   correction_refused f e = rw (sym same) (refused s (correction month day n) (record { year = year_by t y; lines = lines }) f (day_refused (year_by t y) month day n _ opened f (sym e)))
 
-  module _ (place : ℕ) (stands : Option DayRecord) (e : None ≡ first_failing (day_input y.leap month day n)) (at : place ≡ place_of month day) (is : stands ≡ get_or b.year.days place None) where
-    corrected : first_failing (tests (correction month day n) (year_by t b.year)) ≡ first_failing ((is_some stands, fault.NotPosted) ∷ [])
+  module _ (place : ℕ) (stands : Option DayRecord) (e : None ≡ first_failure (day_input y.leap month day n)) (at : place ≡ place_of month day) (is : stands ≡ get_or b.year.days place None) where
+    corrected : first_failure (tests (correction month day n) (year_by t b.year)) ≡ first_failure ((is_some stands, fault.NotPosted) ∷ [])
     corrected =
-        let first : first_failing (tests (correction month day n) (year_by t y)) ≡ first_failing ((is_some (get_or y.days (place_of month day) None), fault.NotPosted) ∷ []) = day_passed (year_by t y) month day n _ opened (sym e) in
+        let first : first_failure (tests (correction month day n) (year_by t y)) ≡ first_failure ((is_some (get_or y.days (place_of month day) None), fault.NotPosted) ∷ []) = day_passed (year_by t y) month day n _ opened (sym e) in
         rw (is, at, sym same) first
 
     pub not_posted : None ≡ stands → Err fault.NotPosted ≡ outcome s (correction month day n) (state_of t b)
     not_posted absent = refused s (correction month day n) (state_of t b) fault.NotPosted (corrected ∙ rw (sym absent) refl)
 
-    pub corrects : (d before : DayRecord) (put : Contents) → Some before ≡ stands → Ok d ≡ day_of n → put ≡ with_days b (exchanged b.year.days place d (Some before)) →
-        with_lines (year_by t put.year) put.lines (by_account (due_in s (year_by t put.year) put.lines)) ≡ outcome s (correction month day n) (state_of t b)
+    pub corrects : (d before : DayRecord) (put : Contents) → Some before ≡ stands → Ok d ≡ day_of n → put ≡ with_days b (days_exchanged b.year.days place d (Some before)) →
+        with_lines (year_by t put.year) put.lines (by_account (lines_due_in s (year_by t put.year) put.lines)) ≡ outcome s (correction month day n) (state_of t b)
     corrects d before put posted made is_put =
-        let passes : first_failing (tests (correction month day n) (year_by t b.year)) ≡ None = corrected ∙ rw (sym posted) refl in
+        let passes : first_failure (tests (correction month day n) (year_by t b.year)) ≡ None = corrected ∙ rw (sym posted) refl in
         rw is_put (sym (passed s (correction month day n) (state_of t b) passes ∙ rw (sym made, at) refl))
 
 -- a book with a record put back is the one before
-pub restored : (b put brought after : Contents) (place : ℕ) (d before : DayRecord) → Some before ≡ get_or b.year.days place None → put ≡ with_days b (set b.year.days place (Some d)) → brought ≡ put → after ≡ with_days brought (set brought.year.days place (Some before)) → after ≡ b
-restored b put brought after place d before stood one two three = three ∙ rw (two, one) (ap (λ (days : Places). with_days b days) (put_back b.year.days place d before stood))
+pub restored : (b put trued_up after : Contents) (place : ℕ) (d before : DayRecord) → Some before ≡ get_or b.year.days place None → put ≡ with_days b (set b.year.days place (Some d)) → trued_up ≡ put → after ≡ with_days trued_up (set trued_up.year.days place (Some before)) → after ≡ b
+restored b put trued_up after place d before stood one two three = three ∙ rw (two, one) (ap (λ (days : Places). with_days b days) (put_back b.year.days place d before stood))

@@ -7,14 +7,14 @@ use Rattle.std.proofs.lemmas.List.{take_all}
 use Rattle.std.proofs.lemmas.Option.{get_or_from_slice_get, gets}
 use Rattle.gas.specs.declared.day.DayRecord.{DayRecord}
 use Rattle.gas.specs.declared.units.Therms.{Therms}
-use Rattle.gas.specs.Day.{metered}
-use Rattle.history.specs.Days.{Places}
-use Rattle.history.specs.Peaks.{HasPeak}
+use Rattle.gas.specs.Day.{reading_of}
+use Rattle.ledger.specs.Days.{Places}
+use Rattle.ledger.specs.Peaks.{HasPeak}
 
 -- the number after the reading at a place, or 0 where no day is posted
 abbrev pub after : Option DayRecord → ℕ
 after None = 0
-after (Some day) = metered day + 1
+after (Some day) = reading_of day + 1
 
 -- the same at a place by its number, or 0 where there is no place
 abbrev pub after_at : Option (Option DayRecord) → ℕ
@@ -37,11 +37,11 @@ pub after_all_more : (places : Places) (i : ℕ) → after_all (take (i + 1) pla
 after_all_more places i = rw add-one (after_all_suc places i)
 
 -- no reading is above one that no place exceeds
-pub below_after : (r : ℕ) (places : Places) → after_all places ≤ r + 1 → list_all (λ d. leb (metered d) r) (flat_map option_to_list places) ≡ true
+pub below_after : (r : ℕ) (places : Places) → after_all places ≤ r + 1 → list_all (λ d. leb (reading_of d) r) (flat_map option_to_list places) ≡ true
 below_after r [] below = refl
 below_after r (None ∷ places) below = below_after r places (omega arith)
 below_after r (Some day ∷ places) below =
-    let here = le-leb (metered day) r (omega arith) in
+    let here = le-leb (reading_of day) r (omega arith) in
     rw (here, below_after r places (omega arith)) refl
 
 -- where the number is 0, no day is posted
@@ -88,7 +88,7 @@ peak_at_end places i best b is end leads =
     let leading : Leads places i b = subst (λ (o : Option (ℕ × Therms)). LeadsOf places i o) is leads in
     let there = posted_there places (b.0 - 1) b.1 _ refl leading.posted in
     let most = rw (take_all i places end) at leading.greatest in
-    let reading : metered there.0 ≡ b.1.count = ap (λ (t : Therms). t.count) there.1.1 in
+    let reading : reading_of there.0 ≡ b.1.count = ap (λ (t : Therms). t.count) there.1.1 in
     record {
       peak = there.0;
       counted = leading.counted;

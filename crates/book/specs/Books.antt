@@ -2,13 +2,13 @@
 use Rattle.std.specs.Prelude.{◌≤◌, Bool, List, [], length}
 use Rattle.std.specs.List.{push}
 use Rattle.gas.specs.declared.month.ClosingNumbers.{ClosingNumbers}
-use Rattle.history.specs.declared.lines.Line.{Line}
-use Rattle.history.specs.Calls.{State, most_lines}
-use Rattle.history.specs.Days.{Places}
-use Rattle.history.specs.Year.{Complete, Standing, unknown_year}
+use Rattle.ledger.specs.declared.lines.Line.{Line}
+use Rattle.ledger.specs.Calls.{State, most_lines}
+use Rattle.ledger.specs.Days.{Places}
+use Rattle.ledger.specs.Year.{IsComplete, Standing, unknown_year}
 use Rattle.book.specs.declared.table.LineTable.{LineTable}
 use Rattle.book.specs.declared.year.MeterYear.{MeterYear}
-use Rattle.book.specs.Tables.{Kept, Near}
+use Rattle.book.specs.Tables.{IsKept, IsNear}
 use Rattle.book.specs.Years.{year_by}
 
 -- what the meter told of the year with what closed its months, and the lines
@@ -33,17 +33,17 @@ abbrev pub with_line : Contents → Line → Contents
 with_line b line = record b { lines = push b.lines line }
 
 -- a book whose year begins
-abbrev pub begun : Contents → Bool → Contents
-begun b leap = record b { year = record { leap = leap; days = unknown_year.days; closings = [] } }
+abbrev pub begun_book : Contents → Bool → Contents
+begun_book b leap = record b { year = record { leap = leap; days = unknown_year.days; closings = [] } }
 
 -- few: the closed months, which run from November on, are at most twelve
 -- complete: all their days are posted; each is lawful, as every day record is
 -- kept: the lines are fit, and their sums stand in the table
 -- room: there are at most as many lines as there is room for
 -- near: under each heading that is brought to targets the lines add up to no more than a target can be, so that no sum runs over
-pub record Sound (y : MeterYear) (t : LineTable) : Type 0 where
+pub record IsSound (y : MeterYear) (t : LineTable) : Type 0 where
   pub few : length y.closings ≤ 12
-  pub complete : Complete y.leap y.days y.closings
-  pub kept : Kept t
+  pub complete : IsComplete y.leap y.days y.closings
+  pub kept : IsKept t
   pub room : length t.lines.items ≤ most_lines
-  pub near : Near t.lines.items
+  pub near : IsNear t.lines.items

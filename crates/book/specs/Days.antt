@@ -1,9 +1,9 @@
 -- What the methods of the day table leave.
 use Rattle.std.specs.Prelude.{ℕ, Some, None, Option, slice_set}
 use Rattle.gas.specs.declared.day.DayRecord.{DayRecord}
-use Rattle.history.specs.Days.{Places}
+use Rattle.ledger.specs.Days.{Places}
 
 -- a record in the place of the one that stood there; where none stood, the table stays
-abbrev pub exchanged : Places → ℕ → DayRecord → Option DayRecord → Places
-exchanged places place day (Some before) = slice_set places place (Some day)
-exchanged places place day None = places
+abbrev pub days_exchanged : Places → ℕ → DayRecord → Option DayRecord → Places
+days_exchanged places place day (Some before) = slice_set places place (Some day)
+days_exchanged places place day None = places

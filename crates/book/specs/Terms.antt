@@ -1,6 +1,6 @@
 -- The numbers of an opening's and a settlement's terms.
 use Rattle.std.specs.Prelude.{Some, None, Option}
-use Rattle.history.specs.Year.{Opening, Settlement, Standing, running, settled}
+use Rattle.ledger.specs.Year.{Opening, Settlement, Standing, running, settled}
 use Rattle.book.specs.declared.terms.OpeningTerms.{OpeningTerms}
 use Rattle.book.specs.declared.terms.SettlementTerms.{SettlementTerms}
 use Rattle.book.specs.declared.terms.Terms.{Terms}

@@ -1,5 +1,5 @@
 -- The year that a book's tables know.
-use Rattle.history.specs.Year.{Standing, Year}
+use Rattle.ledger.specs.Year.{Standing, Year}
 use Rattle.book.specs.declared.year.MeterYear.{MeterYear}
 
 -- the year as known, by the standing of an account and its tables

@@ -1,7 +1,7 @@
 // The numbers that closed the months so far, from November on.
 ghost use Rattle.std.specs.Prelude.{◌≡◌, ◌-◌, ◌<◌, [], ◌∷◌, ◌++◌, length, slice_index_or, take};
 ghost use Rattle.gas.specs.Month.{closing_numbers};
-ghost use Rattle.history.specs.Prices.{no_rates};
+ghost use Rattle.ledger.specs.Prices.{no_rates};
 
 use arrayvec::ArrayVec;
 use gas::Closing;

@@ -3,14 +3,14 @@ ghost use Rattle.std.specs.Prelude.{◌≡◌, IfOk, Ok};
 ghost use Rattle.std.specs.Int.{is_in_range};
 ghost use Rattle.std.specs.Result.{result_err};
 ghost use Rattle.gas.specs.Calendar.{month_length};
-ghost use Rattle.gas.specs.Inputs.{first_failing};
+ghost use Rattle.gas.specs.Inputs.{first_failure};
 ghost use Rattle.gas.specs.Made.{day_of};
-ghost use Rattle.history.specs.Calls.{day_input};
-ghost use Rattle.history.specs.Days.{place_of};
+ghost use Rattle.ledger.specs.Calls.{day_input};
+ghost use Rattle.ledger.specs.Days.{place_of};
 
 use crate::places::Place;
 use gas::{DayNumbers, DayRecord, InputFault, Month};
-use history::AccountFault;
+use ledger::AccountFault;
 
 #[derive(Clone, Copy)]
 pub struct DatedDay {
@@ -34,7 +34,7 @@ impl DatedDay {
         day: u8,
         numbers: DayNumbers,
     ) -> Result<DatedDay, AccountFault>
-        ensures refused { result_err result ≡ first_failing (day_input leap month day numbers) }
+        ensures refused { result_err result ≡ first_failure (day_input leap month day numbers) }
         ensures place { IfOk result (λ d. d.place.index ≡ place_of month day) }
         ensures made { IfOk result (λ d. Ok d.record ≡ day_of numbers) }
     {

@@ -1,7 +1,7 @@
 // The table of a year's days, and the posted days of a month.
 ghost use Rattle.std.specs.Prelude.{◌≡◌, ◌<◌, ◌≤◌, length, replicate, Some, None, slice_index_or, slice_set};
-ghost use Rattle.history.specs.Days.{month_places, posted_in};
-ghost use Rattle.book.specs.Days.{exchanged};
+ghost use Rattle.ledger.specs.Days.{month_places, posted_in};
+ghost use Rattle.book.specs.Days.{days_exchanged};
 
 use crate::places::{Place, places_of};
 use arrayvec::ArrayVec;
@@ -18,7 +18,7 @@ pub struct DayTable {
 
 impl Model for DayTable {
     ghost use Rattle.std.specs.Prelude.{◌≡◌, length};
-    ghost use Rattle.history.specs.Days.{Places};
+    ghost use Rattle.ledger.specs.Days.{Places};
 
     ghost Value = { Places };
 
@@ -63,7 +63,7 @@ impl DayTable {
     /// empty.
     pub fn exchange(&mut self, place: Place, day: DayRecord) -> Option<DayRecord>
         ensures before { result ≡ slice_index_or self.old place.index None }
-        ensures after { self.new ≡ exchanged self.old place.index day result }
+        ensures after { self.new ≡ days_exchanged self.old place.index day result }
     {
         let record = self.places[place.index].as_mut()?;
         Some(mem::replace(record, day))

@@ -1,6 +1,6 @@
 // The gas year's first unauthorized day.
 ghost use Rattle.std.specs.Prelude.{◌≡◌};
-ghost use Rattle.history.specs.Days.{day_of_first, place_of_first, is_unauthorized};
+ghost use Rattle.ledger.specs.Days.{day_of_first, place_of_first, is_unauthorized};
 
 use crate::places::places_of;
 use gas::{DayRecord, Month, Schedule};

@@ -5,7 +5,7 @@ mod book;
 mod closings;
 mod dated;
 mod days;
-mod due;
+mod lines_due;
 mod first;
 mod payment;
 mod peak;

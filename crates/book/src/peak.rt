@@ -1,6 +1,6 @@
 // The peak day of a month.
 ghost use Rattle.std.specs.Prelude.{◌≤◌, length};
-ghost use Rattle.history.specs.Peaks.{IsPeak};
+ghost use Rattle.ledger.specs.Peaks.{IsPeak};
 
 use gas::{DayRecord, Therms};
 

@@ -1,7 +1,7 @@
 // The places of a gas year's days: 31 for each month, in the order of dates.
 ghost use Rattle.std.specs.Prelude.{◌≡◌, ◌+◌, ◌<◌, ◌≤◌};
 ghost use Rattle.gas.specs.Calendar.{month_length};
-ghost use Rattle.history.specs.Days.{month_place, place_of};
+ghost use Rattle.ledger.specs.Days.{month_place, place_of};
 
 use gas::Month;
 use std::ops::Range;

@@ -1,7 +1,7 @@
 // What the opening and the settlement of an account say of its interim rate.
 ghost use Rattle.std.specs.Prelude.{◌≡◌};
-ghost use Rattle.history.specs.Year.{is_interim};
-ghost use Rattle.history.specs.Prices.{increase_in_force};
+ghost use Rattle.ledger.specs.Year.{is_interim};
+ghost use Rattle.ledger.specs.Prices.{increase_in_force};
 ghost use Rattle.book.specs.Terms.{opening_numbers};
 
 use gas::{Month, PerMille};

@@ -1,24 +1,24 @@
 // Receipts less readings, of some days and of all open months.
 ghost use Rattle.std.specs.Prelude.{◌≡◌, ◌≤◌, length};
-ghost use Rattle.history.specs.Days.{month_days, net_therms};
-ghost use Rattle.history.specs.Prices.{open_therms};
-ghost use Rattle.history.specs.Year.{not_opened};
+ghost use Rattle.ledger.specs.Days.{month_days, net_therms};
+ghost use Rattle.ledger.specs.Prices.{open_therms};
+ghost use Rattle.ledger.specs.Year.{not_opened};
 
 use crate::days::posted;
 use crate::year::MeterYear;
 use gas::{DayRecord, Month};
-use history::NetTherms;
+use ledger::SignedTherms;
 
 const MONTHS: u8 = 12;
 
 // What a month's days received less what they used.
-fn net_therms(days: &[DayRecord]) -> NetTherms
+fn net_therms(days: &[DayRecord]) -> SignedTherms
     requires { length days.now ≤ 31 }
     ensures { result.count ≡ net_therms days.now }
 {
-    let mut sum = NetTherms::default();
+    let mut sum = SignedTherms::default();
     for day in days {
-        sum += NetTherms::between(day.receipts, day.reading);
+        sum += SignedTherms::between(day.receipts, day.reading);
     }
     sum
 }
@@ -27,7 +27,7 @@ impl MeterYear {
     ghost use Rattle.book.specs.Years.{year_by};
 
     // Receipts less readings of a month's posted days.
-    fn month_therms(&self, month: Month) -> NetTherms
+    fn month_therms(&self, month: Month) -> SignedTherms
         ensures { result.count ≡ net_therms (month_days self.now.leap self.now.days month.number) }
     {
         let days = posted(self.days.month(month, self.leap));
@@ -36,11 +36,11 @@ impl MeterYear {
 
     /// Receipts less readings of the days of open months, in therms: the same by any standing
     /// (`docs/HISTORY.md`).
-    pub fn open_therms(&self) -> NetTherms
+    pub fn open_therms(&self) -> SignedTherms
         requires { length self.now.closings ≤ 12 }
         ensures { result.count ≡ open_therms (year_by not_opened self.now) }
     {
-        let mut sum = NetTherms::default();
+        let mut sum = SignedTherms::default();
         for number in self.closings.count() as u8..MONTHS {
             sum += self.month_therms(Month { number });
         }

@@ -9,7 +9,7 @@ use Rattle.gas.specs.declared.day.DayRecord.{DayRecord}
 use Rattle.gas.specs.declared.faults.InputFault.{InputFault}
 use Rattle.gas.specs.declared.faults.InputFault.TheVariants as input
 use Rattle.gas.specs.Day.{kind_number, numbers_of}
-use Rattle.gas.specs.Inputs.{checked_day, has_lawful_quantities, mark_number, read, unless}
+use Rattle.gas.specs.Inputs.{checked_day, has_lawful_quantities, mark_number, answer_by, value_if}
 use Rattle.gas.proofs.Lawful.{quantities_taken}
 use Rattle.gas.specs.Made.{day_of, day_tested, kind_of, made_day}
 
@@ -42,19 +42,19 @@ same_made d ok =
       part = le_prop made.part d.part i;
     }
 
-tested : (n : DayNumbers) (r : Result DayRecord InputFault) (b : Bool) (e : has_lawful_quantities n ≡ b) → read numbers_of r ≡ unless b input.Quantity n → r ≡ day_tested n b e
+tested : (n : DayNumbers) (r : Result DayRecord InputFault) (b : Bool) (e : has_lawful_quantities n ≡ b) → answer_by numbers_of r ≡ value_if b input.Quantity n → r ≡ day_tested n b e
 tested n (Ok d) true e h = let same : numbers_of d ≡ n = cc in subst (λ (m : DayNumbers). (ok : has_lawful_quantities m ≡ true) → Ok d ≡ day_tested m true ok) same (λ ok. ap Ok (sym (same_made d ok))) e
 tested n (Err f) true e h = absurd (let z : ◌≡◌ {A = ℕ} 0 1 = cc in omega arith)
 tested n (Ok d) false e h = absurd (let z : ◌≡◌ {A = ℕ} 0 1 = cc in omega arith)
 tested n (Err f) false e h = cc
 
 -- what was refused was not made
-answered : (taken : Result DayNumbers InputFault) (r made : Result DayRecord InputFault) → read numbers_of r ≡ taken → ((n : DayNumbers) → taken ≡ Ok n → r ≡ made) → r ≡ result_and taken made
+answered : (taken : Result DayNumbers InputFault) (r made : Result DayRecord InputFault) → answer_by numbers_of r ≡ taken → ((n : DayNumbers) → taken ≡ Ok n → r ≡ made) → r ≡ result_and taken made
 answered (Ok n) r made h passes = passes n refl
 answered (Err f) (Ok d) made h passes = absurd (let z : ◌≡◌ {A = ℕ} 0 1 = cc in omega arith)
 answered (Err f) (Err e) made h passes = cc
 
-pub day_of_made : (n : DayNumbers) (r : Result DayRecord InputFault) → read numbers_of r ≡ checked_day n → r ≡ day_of n
+pub day_of_made : (n : DayNumbers) (r : Result DayRecord InputFault) → answer_by numbers_of r ≡ checked_day n → r ≡ day_of n
 day_of_made n r h = answered (checked_day n) r _ h (λ m e. tested n r (has_lawful_quantities n) refl (h ∙ e ∙ quantities_taken n m (sym e)))
 
 pub made_of : (n : DayNumbers) (d : DayRecord) → Ok (numbers_of d) ≡ checked_day n → Ok d ≡ day_of n

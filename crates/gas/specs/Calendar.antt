@@ -13,7 +13,8 @@ leap_year = 30 ∷ 31 ∷ 31 ∷ 29 ∷ 31 ∷ 30 ∷ 31 ∷ 30 ∷ 31 ∷ 31 �
 abbrev pub month_length : Bool → ℕ → ℕ
 month_length leap month = slice_index (if leap then leap_year else common_year) month
 
--- the last day of a month of which n days are given: a February ends with its 29th if n is 29, else with its 28th
+-- the last day of a month of which n days are given: a February ends with its 29th if n is 29, else
+-- with its 28th
 abbrev pub month_end : ℕ → ℕ → ℕ
 month_end month n = month_length (n == 29) month
 

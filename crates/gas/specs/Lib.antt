@@ -9,3 +9,4 @@ pub mod Made
 pub mod Money
 pub mod Month
 pub mod Notice
+pub mod Tariffs

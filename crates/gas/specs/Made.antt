@@ -8,7 +8,9 @@ use Rattle.gas.specs.declared.day.DayNumbers.{DayNumbers}
 use Rattle.gas.specs.declared.day.DayRecord.{DayRecord}
 use Rattle.gas.specs.declared.faults.InputFault.{InputFault}
 use Rattle.gas.specs.declared.faults.InputFault.TheVariants as input
-use Rattle.gas.specs.Inputs.{checked_day, has_lawful_quantities, most_a_day, most_per_therm}
+use Rattle.gas.specs.Inputs.{checked_day, has_lawful_quantities}
+use Rattle.gas.specs.declared.day.TheConstants.{MOST_A_DAY}
+use Rattle.gas.specs.declared.units.TheConstants.{MOST_PER_THERM}
 
 -- the kind of a number from 0 to 3
 abbrev pub kind_of : ℕ → DayKind
@@ -17,11 +19,11 @@ kind_of k = slice_index_or (kind.Normal ∷ kind.Sul ∷ kind.Sol ∷ kind.Criti
 -- the day of numbers whose quantities are lawful
 abbrev pub made_day : (n : DayNumbers) → has_lawful_quantities n ≡ true → DayRecord
 made_day n ok =
-    let one = and_parts (nat_le n.nomination most_a_day) _ ok in
-    let two = and_parts (nat_le n.receipts most_a_day) _ one.1 in
-    let three = and_parts (nat_le n.reading most_a_day) _ two.1 in
+    let one = and_parts (nat_le n.nomination MOST_A_DAY) _ ok in
+    let two = and_parts (nat_le n.receipts MOST_A_DAY) _ one.1 in
+    let three = and_parts (nat_le n.reading MOST_A_DAY) _ two.1 in
     let four = and_parts (nat_le n.after_notice n.reading) _ three.1 in
-    let five = and_parts (nat_le n.supply_cost most_per_therm) _ four.1 in
+    let five = and_parts (nat_le n.supply_cost MOST_PER_THERM) _ four.1 in
     record {
       kind = kind_of n.kind;
       curtailed = (n.curtailed == 1);

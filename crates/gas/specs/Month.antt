@@ -6,7 +6,8 @@ use Rattle.gas.specs.declared.month.TotalsNumbers.{TotalsNumbers}
 
 -- the three numbers of which a lawful closing was made
 abbrev pub closing_numbers : Closing → ClosingNumbers
-closing_numbers c = record { index = c.index.price; interruptible = c.interruptible.price; firm = c.firm.price }
+closing_numbers c =
+    record { index = c.index.price; interruptible = c.interruptible.price; firm = c.firm.price }
 
 -- the numbers of which lawful totals were made
 abbrev pub totals_numbers : Totals → TotalsNumbers

@@ -1,14 +1,18 @@
-// A meter day: its numbers as they came, and the lawful record that is made of them.
+//! A meter day: its numbers as they came, and the lawful record that is made of them.
 ghost use Rattle.std.specs.Prelude.{◌≡◌, ◌≤◌};
-ghost use Rattle.gas.specs.Inputs.{checked_day, checked_kind, checked_therms, read};
+ghost use Rattle.gas.specs.declared.day.TheConstants.{MOST_A_DAY};
+ghost use Rattle.gas.specs.Inputs.{checked_day, checked_kind, checked_therms, answer_by};
 
 use crate::faults::InputFault;
 use crate::marks::mark;
 use crate::units::{Rate, Therms};
 
-const MOST_A_DAY: u32 = 200_000;
+/// The most therms that a quantity of a day may have (`docs/TARIFF.md`).
+pub const MOST_A_DAY: u32 = 200_000;
 
-// Most days are normal. On others the pipeline restricts how far use may fall short of the nomination (SUL, system under-run limitation), or how far it may exceed it (SOL, system over-run limitation), or it declares the day critical.
+/// Most days are normal. On others the pipeline restricts how far use may fall short of the
+/// nomination (SUL, system under-run limitation), or how far it may exceed it (SOL, system over-run
+/// limitation), or it declares the day critical (`docs/TARIFF.md`).
 #[derive(Clone, Copy, Debug, Default, PartialEq, Eq)]
 pub enum DayKind {
     #[default]
@@ -18,7 +22,8 @@ pub enum DayKind {
     Critical = 3,
 }
 
-// The eight numbers of a day, lawful or not: quantities in therms, the cost and the rate in millicents per therm.
+/// The eight numbers of a day, lawful or not: the quantities in therms, the cost and the rate in
+/// millicents per therm (`docs/TARIFF.md`).
 #[derive(Clone, Copy, Debug, PartialEq, Eq)]
 pub struct DayNumbers {
     pub kind: u8,
@@ -31,8 +36,10 @@ pub struct DayNumbers {
     pub variance_rate: u32,
 }
 
-// A day with lawful numbers: the confirmed nomination, the receipts at the town border, the meter's reading, the part of it that was metered after a curtailment notice ran out, the day's highest incremental supply cost and its delivery variance rate.
-#[derive(Clone, Copy)]
+/// A day with lawful numbers: the confirmed nomination, the receipts at the town border, the
+/// meter's reading, the part of it that was metered after a curtailment notice ran out, the day's
+/// highest incremental supply cost and its delivery variance rate (`docs/TARIFF.md`).
+#[derive(Clone, Copy, Debug, PartialEq, Eq)]
 pub struct DayRecord {
     pub kind: DayKind,
     pub curtailed: bool,
@@ -42,19 +49,19 @@ pub struct DayRecord {
     pub after_notice: Therms,
     pub supply_cost: Rate,
     pub variance_rate: Rate,
-    ghost nominated: { nomination.count ≤ 200000 },
-    ghost received: { receipts.count ≤ 200000 },
-    ghost metered: { reading.count ≤ 200000 },
+    ghost nominated: { nomination.count ≤ MOST_A_DAY },
+    ghost received: { receipts.count ≤ MOST_A_DAY },
+    ghost metered: { reading.count ≤ MOST_A_DAY },
     ghost part: { after_notice.count ≤ reading.count },
 }
 
-// Refused above 3.
+/// Refused with 5 above 3 (`docs/TARIFF.md`).
 impl TryFrom<u8> for DayKind {
     ghost use Rattle.gas.specs.Day.{kind_number};
 
     type Error = InputFault;
 
-    ghost try_from_gives = { λ kind made. read kind_number made ≡ checked_kind kind };
+    ghost try_from_gives = { λ kind made. answer_by kind_number made ≡ checked_kind kind };
 
     fn try_from(kind: u8) -> Result<DayKind, InputFault> {
         match kind {
@@ -69,7 +76,7 @@ impl TryFrom<u8> for DayKind {
 
 // A day's therms, at most so many.
 fn quantity(count: u32, most: u32) -> Result<Therms, InputFault>
-    ensures { read (λ t. t.count) result ≡ checked_therms count most }
+    ensures { answer_by (λ t. t.count) result ≡ checked_therms count most }
 {
     if count > most {
         return Err(InputFault::Quantity);
@@ -77,11 +84,11 @@ fn quantity(count: u32, most: u32) -> Result<Therms, InputFault>
     Ok(Therms { count })
 }
 
-// A normal day on which nothing flowed, at no price.
+/// A normal day on which nothing flowed, at no price.
 impl Default for DayRecord {
-    ghost use Rattle.gas.specs.Day.{numbers_of};
+    ghost use Rattle.gas.specs.Day.{idle_numbers, numbers_of};
 
-    ghost is_default = { λ day. numbers_of day ≡ record { kind = 0; curtailed = 0; nomination = 0; receipts = 0; reading = 0; after_notice = 0; supply_cost = 0; variance_rate = 0 } };
+    ghost is_default = { λ day. numbers_of day ≡ idle_numbers };
 
     fn default() -> DayRecord {
         DayRecord {
@@ -97,13 +104,14 @@ impl Default for DayRecord {
     }
 }
 
-// Refused are first a day kind above 3, then a mark above 1, then numbers outside their limits.
+/// Refused are, in this order, with 5 a day kind above 3, with 6 a mark above 1, and with 7 numbers
+/// outside their limits (`docs/TARIFF.md`).
 impl TryFrom<DayNumbers> for DayRecord {
     ghost use Rattle.gas.specs.Day.{numbers_of};
 
     type Error = InputFault;
 
-    ghost try_from_gives = { λ numbers made. read numbers_of made ≡ checked_day numbers };
+    ghost try_from_gives = { λ numbers made. answer_by numbers_of made ≡ checked_day numbers };
 
     fn try_from(numbers: DayNumbers) -> Result<DayRecord, InputFault> {
         let kind = DayKind::try_from(numbers.kind)?;

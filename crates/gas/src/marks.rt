@@ -1,12 +1,13 @@
-// Marks, which are 1 for yes and 0 for no.
+//! Marks, which are 1 for yes and 0 for no.
 ghost use Rattle.std.specs.Prelude.{◌≡◌};
-ghost use Rattle.gas.specs.Inputs.{checked_mark, mark_number, read};
+ghost use Rattle.gas.specs.Inputs.{checked_mark, mark_number, answer_by};
 
 use crate::faults::InputFault;
 
-// What a mark says. A function, since a `bool` can have no conversion of ours. Refused above 1.
+/// What a mark says, since a `bool` can have no conversion of ours; refused with 6 above 1
+/// (`docs/TARIFF.md`).
 pub fn mark(number: u8) -> Result<bool, InputFault>
-    ensures { read mark_number result ≡ checked_mark number }
+    ensures { answer_by mark_number result ≡ checked_mark number }
 {
     match number {
         0 => Ok(false),

@@ -4,11 +4,11 @@ use mathlib.Core.Path.{subst⁻¹}
 use Rattle.std.proofs.lemmas.Bool.{and_parts}
 use Rattle.std.proofs.lemmas.List.{take_rest}
 use Rattle.journal.specs.declared.faults.ReadFault.TheVariants.{UnknownKind, CutShort}
-use Rattle.journal.specs.declared.kinds.Placed.{Placed}
+use Rattle.journal.specs.declared.kinds.Located.{Located}
 use Rattle.journal.specs.declared.kinds.Record.{Record}
 use Rattle.journal.specs.Format.{kind_byte, widths, fields_of, record_bytes, record_length}
 use Rattle.journal.specs.Numbers.{row_at, row_bytes}
-use Rattle.journal.specs.Reading.{is_kind, record_of_kind, read_record, behind, answer, after}
+use Rattle.journal.specs.Reading.{is_kind, record_of_kind, read_record, offset_behind, answer_at, offset_after}
 use Rattle.journal.proofs.Widths.{Bytes, bytes_numbers}
 
 -- a record r has a kind, the numbers that a body begins with, and the length of such a body
@@ -45,5 +45,5 @@ begins (k ∷ rest) r b h e =
     rw (m.size, m.kind, m.fields) (ap (λ (l : List ℕ). k ∷ l) body)
 
 -- where a record is read, the reader moves on
-pub moves_on : (bs : List ℕ) (i : ℕ) (p : Placed) → answer bs i ≡ Ok (Some p) → i < after bs i
-moves_on bs i p e = let on = ap (behind i) e in omega (arith, on)
+pub moves_on : (bs : List ℕ) (i : ℕ) (p : Located) → answer_at bs i ≡ Ok (Some p) → i < offset_after bs i
+moves_on bs i p e = let on = ap (offset_behind i) e in omega (arith, on)

@@ -3,7 +3,7 @@ use Rattle.std.proofs.Common.{◌≡◌, ℕ, zero, suc, ◌+◌, ◌*◌, ◌/�
 use Rattle.journal.specs.Numbers.{number_at, row_at, low_bytes, row_bytes, Fit}
 use Rattle.std.proofs.lemmas.List.Sums.{sum_by-cons}
 
--- every place of the list holds a byte
+-- every offset of the list holds a byte
 abbrev pub Bytes : List ℕ → Type 0
 Bytes bs = (i : ℕ) → get_or bs i 0 < 256
 
@@ -37,10 +37,10 @@ numbers_bytes [] (n ∷ ns) rest f = absurd f
 numbers_bytes (w ∷ ws) [] rest f = absurd f
 numbers_bytes (w ∷ ws) (n ∷ ns) rest f =
     let tail = row_bytes ws ns ++ rest in
-    let place : 0 + w ≡ length (low_bytes w n) + 0 = omega (arith, length_low w n) in
+    let offset : 0 + w ≡ length (low_bytes w n) + 0 = omega (arith, length_low w n) in
     ap (λ (l : List ℕ). row_at (w ∷ ws) l 0) (append_assoc (low_bytes w n) (row_bytes ws ns) rest) ∙
     ap₂ ◌∷◌ (number_low w n tail f.0)
-    (ap (row_at ws (low_bytes w n ++ tail)) place ∙ numbers_behind ws (low_bytes w n) tail 0 ∙ numbers_bytes ws ns rest f.1)
+    (ap (row_at ws (low_bytes w n ++ tail)) offset ∙ numbers_behind ws (low_bytes w n) tail 0 ∙ numbers_bytes ws ns rest f.1)
 
 low_number : (w i : ℕ) (bs : List ℕ) → Bytes bs → i + w ≤ length bs → low_bytes w (number_at bs i w) ≡ take w (drop i bs)
 low_number zero i bs b h = refl

@@ -5,6 +5,7 @@
 -- `fields_of`, a record's numbers in the order of its bytes
 -- `record_bytes`, its bytes
 use Rattle.std.specs.Prelude.{ℕ, if◌then◌else◌, List, [], ◌∷◌, length, ◌==◌}
+use Rattle.gas.specs.declared.day.DayNumbers.{DayNumbers}
 use Rattle.journal.specs.Numbers.{row_bytes}
 use Rattle.journal.specs.declared.kinds.Day.{Day}
 use Rattle.journal.specs.declared.kinds.Record.{Record}
@@ -15,7 +16,7 @@ abbrev pub kind_byte : Record → ℕ
 kind_byte (Open leap increase first last) = 1
 kind_byte (Post day) = 2
 kind_byte (Correct day) = 3
-kind_byte (Close month index interruptible firm) = 4
+kind_byte (Close month numbers) = 4
 kind_byte (Pay amount) = 5
 kind_byte (Settle final interest) = 6
 
@@ -23,7 +24,8 @@ kind_byte (Settle final interest) = 6
 abbrev pub open_widths : List ℕ
 open_widths = 1 ∷ 2 ∷ 1 ∷ 1 ∷ []
 
--- month, day, day kind, curtailed mark; nomination, receipts, reading, therms after notice; supply cost, variance rate
+-- month, day; then of the day its kind, curtailed mark; nomination, receipts, reading, therms after
+-- notice; supply cost, variance rate
 abbrev pub day_widths : List ℕ
 day_widths = 1 ∷ 1 ∷ 1 ∷ 1 ∷ 4 ∷ 4 ∷ 4 ∷ 4 ∷ 4 ∷ 4 ∷ []
 
@@ -53,7 +55,9 @@ widths k =
 -- a day's numbers in the order of its bytes
 abbrev pub day_fields : Day → List ℕ
 day_fields d =
-    d.month ∷ d.day ∷ d.kind ∷ d.curtailed ∷ d.nomination ∷ d.receipts ∷ d.reading ∷ d.after_notice ∷ d.supply_cost ∷ d.variance_rate ∷ []
+    let n : DayNumbers = d.numbers in
+    d.month ∷ d.day ∷ n.kind ∷ n.curtailed ∷ n.nomination ∷ n.receipts ∷ n.reading ∷
+    n.after_notice ∷ n.supply_cost ∷ n.variance_rate ∷ []
 
 -- the body that post and correct share
 abbrev pub bytes_of_day : Day → List ℕ
@@ -64,7 +68,7 @@ abbrev pub fields_of : Record → List ℕ
 fields_of (Open leap increase first last) = leap ∷ increase ∷ first ∷ last ∷ []
 fields_of (Post day) = day_fields day
 fields_of (Correct day) = day_fields day
-fields_of (Close month index interruptible firm) = month ∷ index ∷ interruptible ∷ firm ∷ []
+fields_of (Close month n) = month ∷ n.index ∷ n.interruptible ∷ n.firm ∷ []
 fields_of (Pay amount) = amount ∷ []
 fields_of (Settle final interest) = final ∷ interest ∷ []
 

@@ -1,10 +1,7 @@
 -- What a program takes as its input.
 use Rattle.std.specs.Prelude.{ℕ, if◌then◌else◌, List, length, Some, None, Option, nat_le}
+use Rattle.journal.specs.declared.input.TheConstants.{MOST_BYTES}
 
--- the most bytes that are taken
-abbrev pub most_bytes : ℕ
-most_bytes = 65536
-
--- an input of more bytes is not taken
+-- an input of more than 65,536 bytes is not taken
 abbrev pub input_taken : List ℕ → Option (List ℕ)
-input_taken bytes = if nat_le (length bytes) most_bytes then Some bytes else None
+input_taken bytes = if nat_le (length bytes) MOST_BYTES then Some bytes else None

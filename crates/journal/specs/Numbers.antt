@@ -5,12 +5,12 @@
 use Rattle.std.specs.Prelude.{ℕ, zero, suc, ◌+◌, ◌*◌, ◌/◌, ◌%◌, ◌^◌, ◌<◌, List, [], ◌∷◌, ◌++◌, slice_index}
 use Rattle.std.specs.List.{AllZip}
 
--- the number that the w bytes from place i on stand for
+-- the number that the w bytes from offset i on stand for
 abbrev pub number_at : List ℕ → ℕ → ℕ → ℕ
 number_at bs i zero = 0
 number_at bs i (suc w) = slice_index bs i + 256 * number_at bs (suc i) w
 
--- the numbers from place i on, by their widths in bytes
+-- the numbers from offset i on, by their widths in bytes
 abbrev pub row_at : List ℕ → List ℕ → ℕ → List ℕ
 row_at [] bs i = []
 row_at (w ∷ ws) bs i = number_at bs i w ∷ row_at ws bs (i + w)

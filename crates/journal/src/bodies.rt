@@ -1,10 +1,11 @@
-// From bytes to the record that they begin with.
+//! From bytes to the record that they begin with.
 ghost use Rattle.std.specs.Prelude.{◌≡◌};
 ghost use Rattle.journal.specs.Reading.{read_body, read_day, read_front, read_record};
 ghost use Rattle.journal.specs.RoundTrips.{BeginsWith};
 
 use crate::faults::ReadFault;
 use crate::kinds::{Day, Record};
+use gas::{ClosingNumbers, DayNumbers};
 
 fn open(body: &[u8]) -> Result<Record, ReadFault>
     ensures { result ≡ read_body 1 body.now }
@@ -61,14 +62,16 @@ fn day(body: &[u8]) -> Result<Day, ReadFault>
     Ok(Day {
         month: *month,
         day: *day,
-        kind: *kind,
-        curtailed: *curtailed,
-        nomination: u32::from_le_bytes([*n0, *n1, *n2, *n3]),
-        receipts: u32::from_le_bytes([*r0, *r1, *r2, *r3]),
-        reading: u32::from_le_bytes([*m0, *m1, *m2, *m3]),
-        after_notice: u32::from_le_bytes([*a0, *a1, *a2, *a3]),
-        supply_cost: u32::from_le_bytes([*s0, *s1, *s2, *s3]),
-        variance_rate: u32::from_le_bytes([*v0, *v1, *v2, *v3]),
+        numbers: DayNumbers {
+            kind: *kind,
+            curtailed: *curtailed,
+            nomination: u32::from_le_bytes([*n0, *n1, *n2, *n3]),
+            receipts: u32::from_le_bytes([*r0, *r1, *r2, *r3]),
+            reading: u32::from_le_bytes([*m0, *m1, *m2, *m3]),
+            after_notice: u32::from_le_bytes([*a0, *a1, *a2, *a3]),
+            supply_cost: u32::from_le_bytes([*s0, *s1, *s2, *s3]),
+            variance_rate: u32::from_le_bytes([*v0, *v1, *v2, *v3]),
+        },
     })
 }
 
@@ -80,9 +83,11 @@ fn close(body: &[u8]) -> Result<Record, ReadFault>
     };
     Ok(Record::Close {
         month: *month,
-        index: u32::from_le_bytes([*i0, *i1, *i2, *i3]),
-        interruptible: u32::from_le_bytes([*t0, *t1, *t2, *t3]),
-        firm: u32::from_le_bytes([*f0, *f1, *f2, *f3]),
+        numbers: ClosingNumbers {
+            index: u32::from_le_bytes([*i0, *i1, *i2, *i3]),
+            interruptible: u32::from_le_bytes([*t0, *t1, *t2, *t3]),
+            firm: u32::from_le_bytes([*f0, *f1, *f2, *f3]),
+        },
     })
 }
 
@@ -109,7 +114,7 @@ fn settle(body: &[u8]) -> Result<Record, ReadFault>
     })
 }
 
-// The record of a kind, from the bytes behind its kind byte. Each kind is read, and written, by a function of its own, since patterns take the numbers of its body.
+// The record of a kind, from the bytes behind its kind byte.
 fn record_of(kind: u8, body: &[u8]) -> Result<Record, ReadFault>
     ensures { result ≡ read_record kind body.now }
 {
@@ -124,7 +129,8 @@ fn record_of(kind: u8, body: &[u8]) -> Result<Record, ReadFault>
     }
 }
 
-// What the bytes begin with, or none where there is no byte.
+/// The record that the bytes begin with, or none where there is no byte; refused with 1 where the
+/// first is no kind, then with 2 where the body is cut short (`docs/JOURNAL.md`).
 #[tactic(auto, using(crate::proofs::RoundTrips::begins))]
 pub fn front(bytes: &[u8]) -> Result<Option<Record>, ReadFault>
     ensures reads { result ≡ read_front bytes.now }

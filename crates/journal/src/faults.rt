@@ -1,14 +1,22 @@
-// Why a journal record is refused, and the number of each refusal.
+//! Why a journal record is refused.
 ghost use Rattle.std.specs.Prelude.{◌≡◌};
 ghost use Rattle.journal.specs.Faults.{read_number, write_number};
 
+use gas::message;
+use std::error::Error;
+use std::fmt;
+
+/// Why no record is read, by the number of the refusal (`docs/JOURNAL.md`).
 #[derive(Clone, Copy, Debug, PartialEq, Eq)]
 pub enum ReadFault {
+    /// The kind byte is not 1 to 6.
     UnknownKind = 1,
+    /// The journal ends inside the record.
     CutShort = 2,
 }
 
 impl ReadFault {
+    /// The number of the refusal (`docs/JOURNAL.md`).
     pub fn number(self) -> u8
         ensures { result ≡ read_number self }
     {
@@ -16,15 +24,34 @@ impl ReadFault {
     }
 }
 
+/// Why a record is not written, by the number of the refusal (`docs/JOURNAL.md`).
 #[derive(Clone, Copy, Debug, PartialEq, Eq)]
 pub enum WriteFault {
+    /// The caller's buffer is shorter than the record.
     BufferTooShort = 10,
 }
 
 impl WriteFault {
+    /// The number of the refusal (`docs/JOURNAL.md`).
     pub fn number(self) -> u8
         ensures { result ≡ write_number self }
     {
         self as u8
     }
 }
+
+impl fmt::Display for ReadFault {
+    fn fmt<W: fmt::Write>(&self, f: &mut fmt::Formatter<W>) -> fmt::Result {
+        f.write_str(message(self.number()))
+    }
+}
+
+impl Error for ReadFault {}
+
+impl fmt::Display for WriteFault {
+    fn fmt<W: fmt::Write>(&self, f: &mut fmt::Formatter<W>) -> fmt::Result {
+        f.write_str(message(self.number()))
+    }
+}
+
+impl Error for WriteFault {}

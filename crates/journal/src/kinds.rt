@@ -1,22 +1,19 @@
-// The six kinds of record, each with the raw numbers of its bytes, lawful or not.
+//! The six kinds of record, each with the raw numbers of its bytes, lawful or not.
 ghost use Rattle.std.specs.Prelude.{◌≡◌};
 ghost use Rattle.journal.specs.Format.{record_length};
 
-// A meter day as its bytes have it: the quantities in therms, the cost and the rate in millicents per therm. The journal stands alone, so that it shares no type with what days are priced by.
+use gas::{ClosingNumbers, DayNumbers};
+
+/// A meter day as its bytes have it: its month and its day, and the numbers that it has
+/// (`docs/JOURNAL.md`).
 #[derive(Clone, Copy, Debug, PartialEq, Eq)]
 pub struct Day {
     pub month: u8,
     pub day: u8,
-    pub kind: u8,
-    pub curtailed: u8,
-    pub nomination: u32,
-    pub receipts: u32,
-    pub reading: u32,
-    pub after_notice: u32,
-    pub supply_cost: u32,
-    pub variance_rate: u32,
+    pub numbers: DayNumbers,
 }
 
+/// A record of a journal (`docs/JOURNAL.md`).
 #[derive(Clone, Copy, Debug, PartialEq, Eq)]
 pub enum Record {
     Open {
@@ -33,9 +30,7 @@ pub enum Record {
     },
     Close {
         month: u8,
-        index: u32,
-        interruptible: u32,
-        firm: u32,
+        numbers: ClosingNumbers,
     },
     Pay {
         amount: u64,
@@ -46,15 +41,15 @@ pub enum Record {
     },
 }
 
-// A record and the place of its first byte in the journal.
+/// A record and the offset of its first byte in the journal (`docs/JOURNAL.md`).
 #[derive(Clone, Copy, Debug, PartialEq, Eq)]
-pub struct Placed {
-    pub place: usize,
+pub struct Located {
+    pub offset: usize,
     pub record: Record,
 }
 
 impl Record {
-    // How many bytes the record takes in a journal, its kind byte included.
+    /// How many bytes the record takes in a journal, its kind byte included (`docs/JOURNAL.md`).
     pub fn len(&self) -> usize
         ensures { result ≡ record_length self.now }
     {

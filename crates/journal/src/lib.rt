@@ -1,4 +1,4 @@
-// The journal of a gas account: its records, and the reading and writing of their bytes.
+//! The journal of a gas account: its records, and the reading and writing of their bytes.
 #![tactic(auto)]
 
 mod bodies;
@@ -9,7 +9,7 @@ mod reader;
 mod writer;
 
 pub use faults::{ReadFault, WriteFault};
-pub use input::load;
-pub use kinds::{Day, Placed, Record};
+pub use input::{MOST_BYTES, load};
+pub use kinds::{Day, Located, Record};
 pub use reader::Reader;
 pub use writer::write;

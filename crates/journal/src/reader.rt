@@ -1,12 +1,13 @@
-// A reader over the bytes of a journal.
+//! A reader over the bytes of a journal.
 ghost use Rattle.std.specs.Prelude.{◌≡◌, ◌≤◌, length};
 
 use crate::bodies::front;
 use crate::faults::ReadFault;
-use crate::kinds::Placed;
+use crate::kinds::Located;
 
-// The journal's bytes and the place of the next record among them, by which clauses speak of it.
-#[derive(Drop)]
+/// A reader over a journal's bytes, which stands at the offset of the next record
+/// (`docs/JOURNAL.md`).
+#[derive(Debug, Drop)]
 pub struct Reader<'a> {
     bytes: &'a [u8],
     at: usize,
@@ -14,36 +15,38 @@ pub struct Reader<'a> {
 }
 
 impl<'a> Reader<'a> {
-    ghost use Rattle.journal.specs.Reading.{answer, after};
+    ghost use Rattle.journal.specs.Reading.{answer_at, offset_after};
     ghost use Rattle.journal.specs.RoundTrips.{Rewrites};
 
-    // A reader that stands at the journal's first byte.
+    /// A reader that stands at the journal's first byte.
     pub fn new(bytes: &'a [u8]) -> Reader<'a>
         ensures bytes { result.bytes.now ≡ bytes.now }
-        ensures place { result.at ≡ 0 }
+        ensures offset { result.at ≡ 0 }
     {
         Reader { bytes, at: 0 }
     }
 
-    // The place of the next record: how many bytes have been read.
-    pub fn place(&self) -> usize
+    /// The offset of the next record: how many bytes have been read.
+    pub fn offset(&self) -> usize
         ensures { result ≡ self.now.at }
     {
         self.at
     }
 
-    // The next record with its place, or none at the journal's end. Only a record moves the reader on.
-    pub fn next(&mut self) -> Result<Option<Placed>, ReadFault>
-        ensures answers { result ≡ answer self.old.bytes.now self.old.at }
-        ensures moves { self.new.at ≡ after self.old.bytes.now self.old.at }
+    /// The next record with its offset, or none at the journal's end. Refused with 1 where the kind
+    /// byte is none, then with 2 where the journal ends inside the record. Only a record moves the
+    /// reader on (`docs/JOURNAL.md`).
+    pub fn next(&mut self) -> Result<Option<Located>, ReadFault>
+        ensures answers { result ≡ answer_at self.old.bytes.now self.old.at }
+        ensures moves { self.new.at ≡ offset_after self.old.bytes.now self.old.at }
         ensures rewrites { Rewrites self.old.bytes.now result }
         ensures same { self.new.bytes ≡ self.old.bytes }
     {
-        let place = self.at;
-        let Some(record) = front(&self.bytes[place..])? else {
+        let offset = self.at;
+        let Some(record) = front(&self.bytes[offset..])? else {
             return Ok(None);
         };
         self.at += record.len();
-        Ok(Some(Placed { place, record }))
+        Ok(Some(Located { offset, record }))
     }
 }

@@ -1,6 +1,8 @@
-// Writing records at the start of a caller's buffer.
+//! Writing records at the start of a caller's buffer.
 ghost use Rattle.std.specs.Prelude.{◌≡◌, ◌∷◌, take, IfOk};
-ghost use Rattle.journal.specs.Format.{bytes_of_day, day_fields, day_widths, record_bytes};
+ghost use Rattle.journal.specs.Format.{
+    bytes_of_day, close_widths, day_fields, day_widths, fields_of, record_bytes
+};
 ghost use Rattle.journal.specs.Numbers.{Fit};
 ghost use Rattle.journal.specs.declared.kinds.Record.TheVariants.{Open, Close, Pay, Settle};
 ghost use Rattle.journal.specs.RoundTrips.{ReadsBack};
@@ -8,6 +10,7 @@ ghost use Rattle.journal.specs.Writing.{put_answer, buffer_with, write_answer, b
 
 use crate::faults::WriteFault;
 use crate::kinds::{Day, Record};
+use gas::ClosingNumbers;
 
 // The bytes at the start of the buffer, or a refusal where they have no room.
 fn put<const N: usize>(buffer: &mut [u8], bytes: &[u8; N]) -> Result<usize, WriteFault>
@@ -19,23 +22,23 @@ fn put<const N: usize>(buffer: &mut [u8], bytes: &[u8; N]) -> Result<usize, Writ
     Ok(N)
 }
 
-// The bytes of a record of the kind that carries a day. Each kind has a function of its own, as in the reader.
+// The bytes of a record of the kind that carries a day.
 fn day_bytes(kind: u8, day: Day) -> [u8; 29]
     ensures bytes { result ≡ kind ∷ bytes_of_day day }
     ensures within { Fit day_widths (day_fields day) }
 {
-    let [n0, n1, n2, n3] = day.nomination.to_le_bytes();
-    let [r0, r1, r2, r3] = day.receipts.to_le_bytes();
-    let [m0, m1, m2, m3] = day.reading.to_le_bytes();
-    let [a0, a1, a2, a3] = day.after_notice.to_le_bytes();
-    let [s0, s1, s2, s3] = day.supply_cost.to_le_bytes();
-    let [v0, v1, v2, v3] = day.variance_rate.to_le_bytes();
+    let [n0, n1, n2, n3] = day.numbers.nomination.to_le_bytes();
+    let [r0, r1, r2, r3] = day.numbers.receipts.to_le_bytes();
+    let [m0, m1, m2, m3] = day.numbers.reading.to_le_bytes();
+    let [a0, a1, a2, a3] = day.numbers.after_notice.to_le_bytes();
+    let [s0, s1, s2, s3] = day.numbers.supply_cost.to_le_bytes();
+    let [v0, v1, v2, v3] = day.numbers.variance_rate.to_le_bytes();
     [
         kind,
         day.month,
         day.day,
-        day.kind,
-        day.curtailed,
+        day.numbers.kind,
+        day.numbers.curtailed,
         n0,
         n1,
         n2,
@@ -70,12 +73,13 @@ fn open_bytes(leap: u8, increase: u16, first: u8, last: u8) -> [u8; 6]
     [1, leap, i0, i1, first, last]
 }
 
-fn close_bytes(month: u8, index: u32, interruptible: u32, firm: u32) -> [u8; 14]
-    ensures { result ≡ record_bytes (Close month index interruptible firm) }
+fn close_bytes(month: u8, numbers: ClosingNumbers) -> [u8; 14]
+    ensures bytes { result ≡ record_bytes (Close month numbers) }
+    ensures within { Fit close_widths (fields_of (Close month numbers)) }
 {
-    let [i0, i1, i2, i3] = index.to_le_bytes();
-    let [t0, t1, t2, t3] = interruptible.to_le_bytes();
-    let [f0, f1, f2, f3] = firm.to_le_bytes();
+    let [i0, i1, i2, i3] = numbers.index.to_le_bytes();
+    let [t0, t1, t2, t3] = numbers.interruptible.to_le_bytes();
+    let [f0, f1, f2, f3] = numbers.firm.to_le_bytes();
     [4, month, i0, i1, i2, i3, t0, t1, t2, t3, f0, f1, f2, f3]
 }
 
@@ -94,8 +98,9 @@ fn settle_bytes(final_increase: u16, interest: u16) -> [u8; 5]
     [6, f0, f1, i0, i1]
 }
 
-// Puts the record's bytes at the start of the buffer and answers how many they are; what stands behind them stays.
-// A buffer that is too short is refused, and stays whole.
+/// Puts the record's bytes at the start of the buffer and answers how many they are; what stands
+/// behind them stays. Refused with 10 where the buffer is too short, which then stays whole
+/// (`docs/JOURNAL.md`).
 pub fn write(record: &Record, buffer: &mut [u8]) -> Result<usize, WriteFault>
     ensures answers { result ≡ write_answer «record».now buffer.old }
     ensures leaves { buffer.new ≡ buffer_after «record».now buffer.old }
@@ -110,12 +115,7 @@ pub fn write(record: &Record, buffer: &mut [u8]) -> Result<usize, WriteFault>
         } => put(buffer, &open_bytes(leap, increase, first, last)),
         Record::Post { day } => put(buffer, &day_bytes(2, day)),
         Record::Correct { day } => put(buffer, &day_bytes(3, day)),
-        Record::Close {
-            month,
-            index,
-            interruptible,
-            firm,
-        } => put(buffer, &close_bytes(month, index, interruptible, firm)),
+        Record::Close { month, numbers } => put(buffer, &close_bytes(month, numbers)),
         Record::Pay { amount } => put(buffer, &pay_bytes(amount)),
         Record::Settle {
             final_increase,

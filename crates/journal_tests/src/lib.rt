@@ -76,11 +76,11 @@ mod tests {
         for n in 1..bytes.len() {
             let mut reader = Reader::new(&bytes[0..n]);
             assert_eq!(rt; reader.next(), Err(ReadFault::CutShort));
-            assert_eq!(rt; reader.place(), 0);
+            assert_eq!(rt; reader.offset(), 0);
         }
         let mut reader = Reader::new(bytes);
-        assert_eq!(rt; reader.next(), Ok(Some(Placed { place: 0, record })));
-        assert_eq!(rt; reader.place(), bytes.len());
+        assert_eq!(rt; reader.next(), Ok(Some(Located { offset: 0, record })));
+        assert_eq!(rt; reader.offset(), bytes.len());
         assert_eq!(rt; reader.next(), Ok(None));
     }
 
@@ -124,7 +124,7 @@ mod tests {
             for n in 1..41 {
                 let mut reader = Reader::new(&bytes[0..n]);
                 assert_eq!(rt; reader.next(), Err(ReadFault::UnknownKind));
-                assert_eq!(rt; reader.place(), 0);
+                assert_eq!(rt; reader.offset(), 0);
             }
         }
     }
@@ -134,7 +134,7 @@ mod tests {
         let mut reader = Reader::new(b"");
         assert_eq!(rt; reader.next(), Ok(None));
         assert_eq!(rt; reader.next(), Ok(None));
-        assert_eq!(rt; reader.place(), 0);
+        assert_eq!(rt; reader.offset(), 0);
     }
 
     #[test]
@@ -142,14 +142,14 @@ mod tests {
         let mut reader = Reader::new(b"\x06\x64\x00\x02\x01\x05\x01\x02");
         assert_eq!(rt;
             reader.next(),
-            Ok(Some(Placed {
-                place: 0,
+            Ok(Some(Located {
+                offset: 0,
                 record: SETTLE,
             }))
         );
         assert_eq!(rt; reader.next(), Err(ReadFault::CutShort));
         assert_eq!(rt; reader.next(), Err(ReadFault::CutShort));
-        assert_eq!(rt; reader.place(), 5);
+        assert_eq!(rt; reader.offset(), 5);
     }
 
     #[test]
@@ -159,7 +159,7 @@ mod tests {
         assert_eq!(rt; WriteFault::BufferTooShort.number(), 10);
     }
 
-    // A byte for each place, so that no two runs of the stream look alike.
+    // A byte for each offset, so that no two runs of the stream look alike.
     fn patterned() -> [u8; 70_000] {
         let mut bytes = [0; 70_000];
         for (i, b) in bytes.iter_mut().enumerate() {

@@ -5,8 +5,8 @@ use journal::load;
 use report::output;
 
 fn main(rt: HostRuntime) -> anyhow::Result<()> {
-    let heap = rt.alloc();
-    let journal = load(heap, rt.stdin())?;
-    rt.print(output(heap, journal)?)?;
+    let alloc = rt.alloc();
+    let journal = load(alloc, rt.stdin())?;
+    rt.print(output(alloc, journal)?)?;
     Ok(())
 }

@@ -3,7 +3,7 @@
 
 mod balancing;
 mod faults;
-mod gap;
+mod imbalance;
 mod northern;
 mod terms;
 mod tolerance;

@@ -1,7 +1,7 @@
 // The terms of a month that is out of balance.
 ghost use Rattle.std.specs.Prelude.{◌≤◌};
 
-// How far a month may be out of balance before all of its gap is priced at another percentage of the index, over or under.
+// How far a month may be out of balance before all of its imbalance is priced at another percentage of the index, over or under.
 #[derive(Clone, Copy)]
 pub struct MonthTerms {
     pub tolerance: u8,

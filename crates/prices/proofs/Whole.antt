@@ -4,20 +4,20 @@ use Rattle.gas.specs.declared.day.DayRecord.{DayRecord}
 use Rattle.gas.specs.declared.facts.MonthNumbers.{MonthNumbers}
 use Rattle.gas.specs.Day.{numbers_of}
 use Rattle.gas.specs.Facts.{MonthFacts, checked_facts, tests_of_facts}
-use Rattle.gas.specs.Inputs.{first_failing, unless_refused}
+use Rattle.gas.specs.Inputs.{first_failure, answer_unless}
 use Rattle.prices.specs.declared.days.Pattern.{Pattern}
 use Rattle.prices.specs.Months.{Grows, IsMonth, PrintsAll, PrintsFull, PrintsMixed, PrintsSpring, PrintsStacked}
 use Rattle.prices.specs.Patterns.{days_to}
 use Rattle.prices.specs.Rows.{header}
 
-passed : {A F : Type 0} (o : Option F) (f g : A) → Ok f ≡ unless_refused o (Ok g) → f ≡ g
+passed : {A F : Type 0} (o : Option F) (f g : A) → Ok f ≡ answer_unless o (Ok g) → f ≡ g
 passed None f g e = cc
 passed (Some x) f g e = cc
 
 -- facts that were taken have the numbers and the days that they were made of
 pub is_month : (numbers : MonthNumbers) (days : List DayRecord) (pattern : Pattern) (n : ℕ) (f : MonthFacts) → Ok f ≡ checked_facts (record { numbers = numbers; days = days }) → map numbers_of days ≡ days_to pattern n → IsMonth numbers pattern n f
 is_month numbers days pattern n f taken are =
-    let same : f ≡ record { numbers = numbers; days = days } = passed (first_failing (tests_of_facts (record { numbers = numbers; days = days }))) f _ taken in
+    let same : f ≡ record { numbers = numbers; days = days } = passed (first_failure (tests_of_facts (record { numbers = numbers; days = days }))) f _ taken in
     (ap (λ (x : MonthFacts). x.numbers) same, ap (λ (x : MonthFacts). map numbers_of x.days) same ∙ are)
 
 -- a text that was empty, grown by the header and then by all cases

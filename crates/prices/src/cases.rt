@@ -15,7 +15,7 @@ use pipelines::Northern;
 use riders::{Interim, Rider};
 use std::alloc::Global;
 use std::fmt;
-use tariff::{Class, SmallDualFuel};
+use classes::{Class, SmallDualFuel};
 
 // A November with an increase in force, in which the fifth is the gas year's first unauthorized day.
 const NOVEMBER: MonthNumbers = MonthNumbers {
@@ -200,11 +200,11 @@ fn november_and_may(text: &mut String, november: &Facts, may: &Facts) -> Result<
 
 // The mixed November and May. The facts borrow the days, so that each pair of months is made where its cases are printed.
 #[tactic(auto, using(crate::proofs::Months::as_many))]
-fn mixed_months(text: &mut String, heap: Global) -> anyhow::Result<()>
+fn mixed_months(text: &mut String, alloc: Global) -> anyhow::Result<()>
     ensures { OnOk result (Grows PrintsMixed (string_bytes text.old) (string_bytes text.new)) }
 {
-    let november = Pattern::Mixed { base: 1_000 }.days(heap, 30)?;
-    let may = Pattern::Mixed { base: 900 }.days(heap, 31)?;
+    let november = Pattern::Mixed { base: 1_000 }.days(alloc, 30)?;
+    let may = Pattern::Mixed { base: 900 }.days(alloc, 31)?;
     let november = lawful(NOVEMBER, november.as_slice());
     let may = lawful(MAY, may.as_slice());
     november_and_may(text, &november, &may)?;
@@ -213,17 +213,17 @@ fn mixed_months(text: &mut String, heap: Global) -> anyhow::Result<()>
 
 // The full December, once critical and once normal.
 #[tactic(auto, using(crate::proofs::Months::as_many))]
-fn full_months(text: &mut String, heap: Global) -> anyhow::Result<()>
+fn full_months(text: &mut String, alloc: Global) -> anyhow::Result<()>
     ensures { OnOk result (Grows PrintsFull (string_bytes text.old) (string_bytes text.new)) }
 {
     let critical = Pattern::Full {
         kind: DayKind::Critical,
     }
-    .days(heap, 31)?;
+    .days(alloc, 31)?;
     let normal = Pattern::Full {
         kind: DayKind::Normal,
     }
-    .days(heap, 31)?;
+    .days(alloc, 31)?;
     let critical = lawful(DECEMBER, critical.as_slice());
     let normal = lawful(DECEMBER, normal.as_slice());
     refusals(text, &critical, &normal)?;
@@ -232,11 +232,11 @@ fn full_months(text: &mut String, heap: Global) -> anyhow::Result<()>
 
 // March, and an April within the tolerance of a month.
 #[tactic(auto, using(crate::proofs::Months::as_many))]
-fn spring_months(text: &mut String, heap: Global) -> anyhow::Result<()>
+fn spring_months(text: &mut String, alloc: Global) -> anyhow::Result<()>
     ensures { OnOk result (Grows PrintsSpring (string_bytes text.old) (string_bytes text.new)) }
 {
-    let march = Pattern::Mixed { base: 1_000 }.days(heap, 31)?;
-    let april = Pattern::Mixed { base: 930 }.days(heap, 30)?;
+    let march = Pattern::Mixed { base: 1_000 }.days(alloc, 31)?;
+    let april = Pattern::Mixed { base: 930 }.days(alloc, 30)?;
     let march = lawful(MARCH, march.as_slice());
     let april = lawful(APRIL, april.as_slice());
     seasons(text, &march, &april)?;
@@ -245,11 +245,11 @@ fn spring_months(text: &mut String, heap: Global) -> anyhow::Result<()>
 
 // November once more, and an idle December.
 #[tactic(auto, using(crate::proofs::Months::as_many))]
-fn stacked_months(text: &mut String, heap: Global) -> anyhow::Result<()>
+fn stacked_months(text: &mut String, alloc: Global) -> anyhow::Result<()>
     ensures { OnOk result (Grows PrintsStacked (string_bytes text.old) (string_bytes text.new)) }
 {
-    let november = Pattern::Mixed { base: 1_000 }.days(heap, 30)?;
-    let idle = Pattern::Idle.days(heap, 31)?;
+    let november = Pattern::Mixed { base: 1_000 }.days(alloc, 30)?;
+    let idle = Pattern::Idle.days(alloc, 31)?;
     let november = lawful(NOVEMBER, november.as_slice());
     let idle = lawful(DECEMBER, idle.as_slice());
     stacks(text, &november, &idle)?;
@@ -257,14 +257,14 @@ fn stacked_months(text: &mut String, heap: Global) -> anyhow::Result<()>
 }
 
 // Everything that the program prints.
-pub fn output(heap: Global) -> anyhow::Result<String>
+pub fn output(alloc: Global) -> anyhow::Result<String>
     ensures { IfOk result (λ text. PrintsAll (string_bytes text)) }
 {
-    let mut text = String::new(heap);
+    let mut text = String::new(alloc);
     head(&mut text)?;
-    mixed_months(&mut text, heap)?;
-    full_months(&mut text, heap)?;
-    spring_months(&mut text, heap)?;
-    stacked_months(&mut text, heap)?;
+    mixed_months(&mut text, alloc)?;
+    full_months(&mut text, alloc)?;
+    spring_months(&mut text, alloc)?;
+    stacked_months(&mut text, alloc)?;
     Ok(text)
 }

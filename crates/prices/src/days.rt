@@ -82,11 +82,11 @@ impl Pattern {
     }
 
     // The days of a month in order. `1..=count` ends in two ways, each of which would have to be proved.
-    pub fn days(self, heap: Global, count: u8) -> anyhow::Result<Vec<DayRecord>>
+    pub fn days(self, alloc: Global, count: u8) -> anyhow::Result<Vec<DayRecord>>
         requires { count ≤ 31 }
         ensures { IfOk result (λ days. map numbers_of days.items ≡ days_to self count) }
     {
-        let mut days = Vec::new(heap);
+        let mut days = Vec::new(alloc);
         for number in 1..count + 1 {
             let day = DayRecord::try_from(self.numbers(number))
                 .ok()

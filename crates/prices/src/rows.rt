@@ -1,6 +1,6 @@
 // The row of one item.
 ghost use Rattle.std.specs.Prelude.{Some};
-ghost use Rattle.gas.specs.Inputs.{read};
+ghost use Rattle.gas.specs.Inputs.{answer_by};
 ghost use Rattle.prices.specs.Rows.{answer_text};
 
 use gas::{Item, Millicents, PriceValues, ScheduleFault};
@@ -15,7 +15,7 @@ pub struct Row {
 }
 
 impl fmt::Display for Row {
-    ghost output = { λ r. Some (answer_text r.case r.item (read (λ m. m.amount) r.answer)) };
+    ghost output = { λ r. Some (answer_text r.case r.item (answer_by (λ m. m.amount) r.answer)) };
 
     fn fmt<W: fmt::Write>(&self, f: &mut fmt::Formatter<W>) -> fmt::Result {
         match self.answer {

@@ -5,7 +5,7 @@ ghost use Rattle.prices.specs.Cases.{large, small};
 use gas::{PerMille, Rate, Schedule, Therms};
 use pipelines::{MonthTerms, Northern, Tolerance};
 use riders::{Affordability, Franchise, GasYear, Weather};
-use tariff::{Class, FirmInterruptible, LargeDualFuel, SmallDualFuel};
+use classes::{Class, FirmInterruptible, LargeDualFuel, SmallDualFuel};
 
 pub const TOLERANCE: Tolerance = Tolerance {
     day: 4,

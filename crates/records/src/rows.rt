@@ -1,13 +1,14 @@
-// The text of one record, and of a refusal.
+//! The text of one record, and of a refusal.
 ghost use Rattle.std.specs.Prelude.{Some};
 ghost use Rattle.journal.specs.Format.{day_fields};
 ghost use Rattle.records.specs.Rows.{day_names, fields_text, record_text, row_text, refusal_text};
 
-use journal::{Day, Placed, ReadFault, Record};
+use gas::{ClosingNumbers, DayNumbers};
+use journal::{Day, Located, ReadFault, Record};
 use std::fmt;
 
-// The fields of a day, each with its name: a type of our own, since the day is another crate's and its words are this program's.
-#[derive(Clone, Copy)]
+// The fields of a day, each with its name.
+#[derive(Clone, Copy, Debug, PartialEq, Eq)]
 struct Named(Day);
 
 impl fmt::Display for Named {
@@ -17,6 +18,9 @@ impl fmt::Display for Named {
         let Day {
             month,
             day,
+            numbers,
+        } = self.0;
+        let DayNumbers {
             kind,
             curtailed,
             nomination,
@@ -25,7 +29,7 @@ impl fmt::Display for Named {
             after_notice,
             supply_cost,
             variance_rate,
-        } = self.0;
+        } = numbers;
         write!(
             f,
             " month {month} day {day} kind {kind} curtailed {curtailed} \
@@ -35,8 +39,8 @@ impl fmt::Display for Named {
     }
 }
 
-// A record's kind in a word and its fields by name: a type of our own, as for the day.
-#[derive(Clone, Copy)]
+// A record's kind in a word and its fields by name.
+#[derive(Clone, Copy, Debug, PartialEq, Eq)]
 struct Described(Record);
 
 impl fmt::Display for Described {
@@ -57,9 +61,12 @@ impl fmt::Display for Described {
             Record::Correct { day } => write!(f, "correct{}", Named(day)),
             Record::Close {
                 month,
-                index,
-                interruptible,
-                firm,
+                numbers:
+                    ClosingNumbers {
+                        index,
+                        interruptible,
+                        firm,
+                    },
             } => write!(
                 f,
                 "close month {month} index {index} interruptible {interruptible} firm {firm}"
@@ -76,24 +83,26 @@ impl fmt::Display for Described {
     }
 }
 
-// A record with its number in the journal, counted from 1.
-#[derive(Clone, Copy)]
+/// A record with its number in the journal, counted from 1; its text is a row of the listing
+/// (`docs/JOURNAL.md`).
+#[derive(Clone, Copy, Debug, PartialEq, Eq)]
 pub struct Row {
     pub number: usize,
-    pub placed: Placed,
+    pub located: Located,
 }
 
 impl fmt::Display for Row {
-    ghost output = { λ r. Some (row_text r.number r.placed) };
+    ghost output = { λ r. Some (row_text r.number r.located) };
 
     fn fmt<W: fmt::Write>(&self, f: &mut fmt::Formatter<W>) -> fmt::Result {
-        let Placed { place, record } = self.placed;
-        write!(f, "{} {place} {}", self.number, Described(record))
+        let Located { offset, record } = self.located;
+        write!(f, "{} {offset} {}", self.number, Described(record))
     }
 }
 
-// The refusal at which reading stops, and the number of the record that it met.
-#[derive(Clone, Copy)]
+/// The refusal at which reading stops, and the number of the record that it met; its text is the
+/// last row of the listing (`docs/JOURNAL.md`).
+#[derive(Clone, Copy, Debug, PartialEq, Eq)]
 pub struct Refusal {
     pub number: usize,
     pub fault: ReadFault,

@@ -5,9 +5,9 @@ use Rattle.std.proofs.Math.Seq.{drop-cons}
 use Rattle.std.proofs.lemmas.Option.{get_or_from_slice_get, slice_get_within}
 use Rattle.std.specs.List.{slice_get}
 use Rattle.std.specs.Option.{ok_or}
-use Rattle.history.specs.declared.lines.Line.{Line}
-use Rattle.history.specs.declared.faults.AccountFault.TheVariants.{NoLine}
-use Rattle.history.specs.Questions.{line_numbered}
+use Rattle.ledger.specs.declared.lines.Line.{Line}
+use Rattle.ledger.specs.declared.faults.AccountFault.TheVariants.{NoLine}
+use Rattle.ledger.specs.Questions.{line_numbered}
 use Rattle.report.specs.Rows.{line_text, lines_text}
 
 was_found : (o : Option Line) (line : Line) → ok_or o NoLine ≡ Ok line → o ≡ Some line

@@ -2,9 +2,9 @@
 use Rattle.std.proofs.Common.{◌≡◌, ℕ, List, [], ◌++◌, refl, subst}
 use Rattle.account.specs.declared.faults.Refusal.{Refusal}
 use Rattle.account.specs.Playing.{Played}
-use Rattle.history.specs.Calls.{State}
-use Rattle.history.specs.Prices.{Tariff}
-use Rattle.history.specs.Runs.{new_state}
+use Rattle.ledger.specs.Calls.{State}
+use Rattle.ledger.specs.Prices.{Tariff}
+use Rattle.ledger.specs.Runs.{new_state}
 use Rattle.report.specs.Outputs.{PrintsPlayed}
 use Rattle.report.specs.Tariffs.{fixed_tariff}
 use Rattle.report.specs.Rows.{account_text, refusals_text}

@@ -2,8 +2,8 @@
 use Rattle.std.specs.Prelude.{◌≡◌, ℕ, List, Some, None, codes, Option}
 use Rattle.account.specs.declared.faults.Refusal.{Refusal}
 use Rattle.account.specs.Playing.{Played}
-use Rattle.history.specs.Calls.{State}
-use Rattle.history.specs.Runs.{new_state}
+use Rattle.ledger.specs.Calls.{State}
+use Rattle.ledger.specs.Runs.{new_state}
 use Rattle.report.specs.Tariffs.{fixed_tariff}
 use Rattle.report.specs.Rows.{played_text}
 

@@ -3,9 +3,9 @@ use Rattle.std.specs.Prelude.{ℕ, ◌+◌, List, [], ◌∷◌, ◌++◌, ℤ, 
 use Rattle.std.specs.Fmt.{signed_decimal}
 use Rattle.account.specs.declared.faults.Refusal.{Refusal}
 use Rattle.account.specs.Faults.{journal_values}
-use Rattle.history.specs.declared.lines.Line.{Line}
-use Rattle.history.specs.Headings.{heading_item, heading_month, money_on, therms_on}
-use Rattle.history.specs.Questions.{sum_of_all}
+use Rattle.ledger.specs.declared.lines.Line.{Line}
+use Rattle.ledger.specs.Headings.{heading_item, heading_month, money_on, therms_on}
+use Rattle.ledger.specs.Questions.{sum_of_all}
 
 -- a refused record: its number, and that of the refusal
 abbrev pub refusal_text : Refusal → List ℕ

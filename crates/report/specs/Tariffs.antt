@@ -3,10 +3,10 @@ use Rattle.std.specs.Prelude.{ℕ}
 use Rattle.gas.specs.declared.items.Item.{Item}
 use Rattle.gas.specs.Facts.{MonthFacts}
 use Rattle.gas.specs.Limits.{Answer}
-use Rattle.history.specs.Prices.{Tariff, tariff_by}
+use Rattle.ledger.specs.Prices.{Tariff, tariff_by}
 use Rattle.pipelines.specs.Northern.{northern_day, northern_month}
-use Rattle.riders.specs.Riders.{franchise_charge, franchise_row, interim_charge, interim_row, ridden}
-use Rattle.tariff.specs.Classes.{class_price, small_row}
+use Rattle.riders.specs.Riders.{franchise_charge, franchise_row, interim_charge, interim_row, price_with_rider}
+use Rattle.classes.specs.Classes.{class_price, small_row}
 
 -- the therms that the site uses in a year
 abbrev pub annual_usage : ℕ
@@ -22,11 +22,11 @@ small_on_northern = class_price (small_row annual_usage) northern_day northern_m
 
 -- with the interim rider on it
 abbrev pub with_interim : MonthFacts → Item → Answer
-with_interim = ridden interim_row interim_charge small_on_northern
+with_interim = price_with_rider interim_row interim_charge small_on_northern
 
 -- and the franchise rider on that
 abbrev pub with_franchise : MonthFacts → Item → Answer
-with_franchise = ridden franchise_row (franchise_charge franchise_share) with_interim
+with_franchise = price_with_rider franchise_row (franchise_charge franchise_share) with_interim
 
 -- riders leave a day's unauthorized therms to the class
 abbrev pub fixed_tariff : Tariff

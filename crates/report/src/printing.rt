@@ -44,25 +44,25 @@ fn write_account<S: Schedule>(text: &mut String, account: &Account<S>) -> Result
 }
 
 // What was refused of a journal, and the account that it made.
-fn played(heap: Global, journal: &[u8]) -> Result<String, fmt::Error>
+fn played(alloc: Global, journal: &[u8]) -> Result<String, fmt::Error>
     ensures { IfOk result (λ text. PrintsPlayed journal.now (string_bytes text)) }
 {
     let mut account = Account::new(schedule());
-    let refusals = account.play(heap, journal)?;
-    let mut text = String::new(heap);
+    let refusals = account.play(alloc, journal)?;
+    let mut text = String::new(alloc);
     write_refusals(&mut text, &refusals)?;
     write_account(&mut text, &account)?;
     Ok(text)
 }
 
 // All that the program prints of a journal, or of an input that was too long to be one.
-pub fn output(heap: Global, journal: Option<Vec<u8>>) -> Result<String, fmt::Error>
+pub fn output(alloc: Global, journal: Option<Vec<u8>>) -> Result<String, fmt::Error>
     ensures { IfOk result (λ text. Prints (option_map vec_items journal) (string_bytes text)) }
 {
     let Some(bytes) = journal else {
-        let mut text = String::new(heap);
+        let mut text = String::new(alloc);
         writeln!(text, "too long")?;
         return Ok(text);
     };
-    played(heap, &bytes)
+    played(alloc, &bytes)
 }

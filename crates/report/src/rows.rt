@@ -3,7 +3,7 @@ ghost use Rattle.std.specs.Prelude.{Some};
 ghost use Rattle.report.specs.Rows.{line_text, refusal_text};
 
 use account::Refusal;
-use history::Line;
+use ledger::Line;
 use std::fmt;
 
 // A line with its number, counted from 1.

@@ -1,12 +1,12 @@
 // The schedule by which the program prices.
 ghost use Rattle.std.specs.Prelude.{◌≡◌};
-ghost use Rattle.history.specs.Prices.{tariff_by};
+ghost use Rattle.ledger.specs.Prices.{tariff_by};
 ghost use Rattle.report.specs.Tariffs.{fixed_tariff};
 
 use gas::{PerMille, Schedule, Therms};
 use pipelines::Northern;
 use riders::{Franchise, Interim, Rider, WithRider};
-use tariff::{Class, SmallDualFuel};
+use classes::{Class, SmallDualFuel};
 
 // Small dual fuel on Northern, with the interim rider on it, and on that a franchise rider.
 pub type FixedSchedule = WithRider<WithRider<Class<SmallDualFuel, Northern>, Interim>, Franchise>;

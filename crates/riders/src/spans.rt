@@ -1,7 +1,7 @@
 // Dates, spans of them, and the gas years that have weather rates.
 ghost use Rattle.std.specs.Prelude.{◌≡◌, ◌≤◌};
-ghost use Rattle.gas.specs.Inputs.{read};
-ghost use Rattle.riders.specs.Weather.{between, checked_year, gas_month};
+ghost use Rattle.gas.specs.Inputs.{answer_by};
+ghost use Rattle.riders.specs.Weather.{is_between, checked_year, gas_month};
 
 use crate::faults::RiderFault;
 use gas::{Month, Rate};
@@ -27,7 +27,7 @@ pub struct Span {
 
 impl Span {
     pub fn holds(&self, date: Date) -> bool
-        ensures { result ≡ between self.now.first self.now.last date }
+        ensures { result ≡ is_between self.now.first self.now.last date }
     {
         (self.first..=self.last).contains(&date)
     }
@@ -45,7 +45,7 @@ pub struct GasYear {
 impl TryFrom<u16> for GasYear {
     type Error = RiderFault;
 
-    ghost try_from_gives = { λ start made. read (λ y. y.start) made ≡ checked_year start };
+    ghost try_from_gives = { λ start made. answer_by (λ y. y.start) made ≡ checked_year start };
 
     fn try_from(start: u16) -> Result<GasYear, RiderFault> {
         if !(FIRST_YEAR..=LAST_YEAR).contains(&start) {

@@ -1,6 +1,6 @@
 // The six calls of an account, and the call that a journal's record is.
 ghost use Rattle.std.specs.Prelude.{◌≡◌};
-ghost use Rattle.history.specs.Calls.{closing, correction, opening, payment, posting, settling};
+ghost use Rattle.ledger.specs.Calls.{closing, correction, opening, payment, posting, settling};
 ghost use Rattle.account.specs.Calls.{Called};
 ghost use Rattle.account.specs.Journals.{call_of, numbers_in};
 
@@ -9,7 +9,7 @@ use crate::inputs::{opening_terms, settlement_terms};
 use crate::standing::Standing;
 use book::OpeningTerms;
 use gas::{ClosingNumbers, DayNumbers, Schedule};
-use history::AccountFault;
+use ledger::AccountFault;
 use journal::{Day, Record};
 
 // What a journal's day was, without its date.

@@ -1,15 +1,15 @@
 // What an account answers to questions, of which none changes it.
 ghost use Rattle.std.specs.Prelude.{◌≡◌, ◌≤◌, length};
-ghost use Rattle.history.specs.Calls.{most_lines};
-ghost use Rattle.history.specs.Prices.{open_therms};
-ghost use Rattle.history.specs.Questions.{PeakAnswer, line_numbered, sum_of_all};
-ghost use Rattle.history.specs.Runs.{RunsAddUp};
-ghost use Rattle.history.specs.Year.{Complete};
+ghost use Rattle.ledger.specs.Calls.{most_lines};
+ghost use Rattle.ledger.specs.Prices.{open_therms};
+ghost use Rattle.ledger.specs.Questions.{IsPeakAnswer, line_numbered, sum_of_all};
+ghost use Rattle.ledger.specs.Runs.{RunsAddUp};
+ghost use Rattle.ledger.specs.Year.{IsComplete};
 ghost use Rattle.account.specs.Histories.{AddsUpByItsHistories};
 
 use crate::account::Account;
 use gas::{Millicents, Month, Schedule};
-use history::{AccountFault, Line, NetTherms};
+use ledger::{AccountFault, Line, SignedTherms};
 
 impl<S: Schedule> Account<S> {
     /// How many lines there are; and what is true of every account: the months closed are the first
@@ -19,7 +19,7 @@ impl<S: Schedule> Account<S> {
         ensures is { result ≡ length self.now.state.lines }
         ensures room { length self.now.state.lines ≤ most_lines }
         ensures few { length self.now.state.year.closings ≤ 12 }
-        ensures complete { Complete self.now.state.year.leap self.now.state.year.days self.now.state.year.closings }
+        ensures complete { IsComplete self.now.state.year.leap self.now.state.year.days self.now.state.year.closings }
     {
         self.book.line_count()
     }
@@ -42,7 +42,7 @@ impl<S: Schedule> Account<S> {
     ///
     /// The law of all runs stands here: whole, and of this account by every history that has made
     /// it (`docs/HISTORY.md`).
-    pub fn open_therms(&self) -> NetTherms
+    pub fn open_therms(&self) -> SignedTherms
         ensures is { result.count ≡ open_therms self.now.state.year }
         ensures law { RunsAddUp }
         ensures adds_up { AddsUpByItsHistories S.unauthorized S.price self.now result.count }
@@ -53,7 +53,7 @@ impl<S: Schedule> Account<S> {
     /// A day of a month, counted from 1, that no other of its days exceeds in its reading, if a day
     /// of it is posted; refused with 20 before the opening, then with 3 (`docs/ACCOUNT.md`).
     pub fn peak_day(&self, month: u8) -> Result<Option<u8>, AccountFault>
-        ensures { PeakAnswer self.now.state.year month result }
+        ensures { IsPeakAnswer self.now.state.year month result }
     {
         self.standing.terms()?;
         let month = Month::try_from(month)?;

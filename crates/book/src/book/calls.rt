@@ -1,9 +1,9 @@
 // The calls of an account that reach its book: what each answers and leaves, with the account's standing beside it, is the outcome of that call.
 ghost use Rattle.std.specs.Prelude.{◌≡◌, true, OnErr};
-ghost use Rattle.gas.specs.Inputs.{read};
-ghost use Rattle.history.specs.Calls.{closing, correction, outcome, payment, posting, settling};
-ghost use Rattle.history.specs.Prices.{Tariff, tariff_by};
-ghost use Rattle.history.specs.Year.{Standing, is_opened, running, settled};
+ghost use Rattle.gas.specs.Inputs.{answer_by};
+ghost use Rattle.ledger.specs.Calls.{closing, correction, outcome, payment, posting, settling};
+ghost use Rattle.ledger.specs.Prices.{Tariff, tariff_by};
+ghost use Rattle.ledger.specs.Year.{Standing, is_opened, running, settled};
 ghost use Rattle.book.specs.Terms.{opening_numbers, settlement_numbers, standing_of};
 
 use crate::book::Book;
@@ -11,14 +11,14 @@ use crate::dated::DatedDay;
 use crate::payment::payment_line;
 use crate::terms::{OpeningTerms, SettlementTerms, Terms};
 use gas::{Closing, ClosingNumbers, DayNumbers, Month, Schedule};
-use history::AccountFault;
+use ledger::AccountFault;
 
 impl Book {
     ghost use Rattle.book.specs.Books.{state_of};
 
     // Stores a day that is absent. It is so on any tariff and by any standing of an account that was opened.
     pub fn post(&mut self, month: u8, day: u8, numbers: DayNumbers) -> Result<(), AccountFault>
-        ensures is { (s : Tariff) (t : Standing) → is_opened t ≡ true → read (λ _. state_of t self.new) result ≡ outcome s (posting month day numbers) (state_of t self.old) }
+        ensures is { (s : Tariff) (t : Standing) → is_opened t ≡ true → answer_by (λ _. state_of t self.new) result ≡ outcome s (posting month day numbers) (state_of t self.old) }
         ensures unchanged { OnErr result (self.new ≡ self.old) }
     {
         let dated = DatedDay::new(self.year.leap, month, day, numbers)?;
@@ -38,18 +38,18 @@ impl Book {
         day: u8,
         numbers: DayNumbers,
     ) -> Result<(), AccountFault>
-        ensures is { read (λ _. state_of (standing_of terms.now) self.new) result ≡ outcome (tariff_by (S.unauthorized schedule.now) (S.price schedule.now)) (correction month day numbers) (state_of (standing_of terms.now) self.old) }
+        ensures is { answer_by (λ _. state_of (standing_of terms.now) self.new) result ≡ outcome (tariff_by (S.unauthorized schedule.now) (S.price schedule.now)) (correction month day numbers) (state_of (standing_of terms.now) self.old) }
         ensures unchanged { OnErr result (self.new ≡ self.old) }
     {
         let dated = DatedDay::new(self.year.leap, month, day, numbers)?;
         let Some(before) = self.exchange(dated.place, dated.record) else {
             return Err(AccountFault::NotPosted);
         };
-        let brought = self.bring(schedule, terms);
-        if brought.is_err() {
+        let trued_up = self.true_up(schedule, terms);
+        if trued_up.is_err() {
             self.store(dated.place, before);
         }
-        brought
+        trued_up
     }
 
     // Closes the earliest open month, of which all days are posted, and brings the lines to the year as then known.
@@ -60,7 +60,7 @@ impl Book {
         month: u8,
         numbers: ClosingNumbers,
     ) -> Result<(), AccountFault>
-        ensures is { read (λ _. state_of (standing_of terms.now) self.new) result ≡ outcome (tariff_by (S.unauthorized schedule.now) (S.price schedule.now)) (closing month numbers) (state_of (standing_of terms.now) self.old) }
+        ensures is { answer_by (λ _. state_of (standing_of terms.now) self.new) result ≡ outcome (tariff_by (S.unauthorized schedule.now) (S.price schedule.now)) (closing month numbers) (state_of (standing_of terms.now) self.old) }
         ensures unchanged { OnErr result (self.new ≡ self.old) }
     {
         let month = Month::try_from(month)?;
@@ -72,16 +72,16 @@ impl Book {
             return Err(AccountFault::LacksDay);
         }
         self.close_next(closing);
-        let brought = self.bring(schedule, terms);
-        if brought.is_err() {
+        let trued_up = self.true_up(schedule, terms);
+        if trued_up.is_err() {
             self.reopen_last();
         }
-        brought
+        trued_up
     }
 
     // Writes a line that takes off what is paid. It is so on any tariff and by any standing of an account that was opened.
     pub fn pay(&mut self, amount: u64) -> Result<(), AccountFault>
-        ensures is { (s : Tariff) (t : Standing) → is_opened t ≡ true → read (λ _. state_of t self.new) result ≡ outcome s (payment amount) (state_of t self.old) }
+        ensures is { (s : Tariff) (t : Standing) → is_opened t ≡ true → answer_by (λ _. state_of t self.new) result ≡ outcome s (payment amount) (state_of t self.old) }
         ensures unchanged { OnErr result (self.new ≡ self.old) }
     {
         let line = payment_line(amount)?;
@@ -99,7 +99,7 @@ impl Book {
         opening: &OpeningTerms,
         settlement: &SettlementTerms,
     ) -> Result<(), AccountFault>
-        ensures is { read (λ _. state_of (settled (opening_numbers opening.now) (settlement_numbers settlement.now)) self.new) result ≡ outcome (tariff_by (S.unauthorized schedule.now) (S.price schedule.now)) (settling (settlement_numbers settlement.now)) (state_of (running (opening_numbers opening.now)) self.old) }
+        ensures is { answer_by (λ _. state_of (settled (opening_numbers opening.now) (settlement_numbers settlement.now)) self.new) result ≡ outcome (tariff_by (S.unauthorized schedule.now) (S.price schedule.now)) (settling (settlement_numbers settlement.now)) (state_of (running (opening_numbers opening.now)) self.old) }
         ensures unchanged { OnErr result (self.new ≡ self.old) }
     {
         if self.year.closings.count() <= opening.last.number as usize {
@@ -109,6 +109,6 @@ impl Book {
             opening: *opening,
             settlement: Some(*settlement),
         };
-        self.bring(schedule, &terms)
+        self.true_up(schedule, &terms)
     }
 }

@@ -1,5 +1,5 @@
 use Rattle.std.proofs.Common.{◌≡◌, ◌≤◌, length, take}
-use Rattle.history.specs.Days.{posted_in}
+use Rattle.ledger.specs.Days.{posted_in}
 use Rattle.book.proofs.days.posted.Given as goal
 
 abbrev pub invariant-loop-place : goal.invariant-loop-place

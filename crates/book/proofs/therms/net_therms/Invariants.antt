@@ -1,5 +1,5 @@
 use Rattle.std.proofs.Common.{◌≡◌, take}
-use Rattle.history.specs.Days.{net_therms}
+use Rattle.ledger.specs.Days.{net_therms}
 use Rattle.book.proofs.therms.net_therms.Given as goal
 
 abbrev pub invariant-loop-day : goal.invariant-loop-day

@@ -1,5 +1,5 @@
 use Rattle.std.proofs.Common.{◌≡◌, ◌+◌, Ok, string_bytes}
-use Rattle.history.specs.Questions.{line_numbered}
+use Rattle.ledger.specs.Questions.{line_numbered}
 use Rattle.report.proofs.Numbered.{one_more}
 use Rattle.report.proofs.printing.write_lines.Goals as goal
 

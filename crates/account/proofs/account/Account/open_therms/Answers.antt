@@ -1,6 +1,6 @@
 use Rattle.std.proofs.Common.{ap, ◌∙◌}
-use Rattle.history.specs.Prices.{open_therms}
-use Rattle.history.proofs.Law.{runs_add_up}
+use Rattle.ledger.specs.Prices.{open_therms}
+use Rattle.ledger.proofs.Law.{runs_add_up}
 use Rattle.account.specs.Holdings.{Holding}
 use Rattle.account.proofs.account.Account.open_therms.Goals as goal
 

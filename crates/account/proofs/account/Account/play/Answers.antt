@@ -1,5 +1,5 @@
 use Rattle.std.proofs.Common.{ℕ, List, Bor, refl, ap, arith, rules}
-use Rattle.history.proofs.Law.{runs_add_up}
+use Rattle.ledger.proofs.Law.{runs_add_up}
 use Rattle.account.proofs.Turns.{accepted_on, ended, has_room, number_fits, refused_on, start, unread}
 use Rattle.account.proofs.account.Account.play.Goals as goal
 use Rattle.account.proofs.account.Account.play.Goals.{in-None, in-Some+in-Ok-None, in-Some+in-Err}
@@ -7,19 +7,19 @@ use Rattle.account.proofs.account.Account.play.Goals.{in-None, in-Some+in-Ok-Non
 pub loop-number-init : goal.loop-number-init
 loop-number-init g c = record {
   schedule = refl;
-  turn = start c.new-reader.ensures.bytes c.in_ok-refusals.ensures.items c.in_ok-refusals.ensures.len c.in_ok-refusals.ensures.capacity c.new-reader.ensures.place (search rules);
+  turn = start c.new-reader.ensures.bytes c.in_ok-refusals.ensures.items c.in_ok-refusals.ensures.len c.in_ok-refusals.ensures.capacity c.new-reader.ensures.offset (search rules);
 }
 
 pub unwrap-requires : goal.unwrap-requires
 unwrap-requires g c = c.push.ensures.succeeds (has_room c.loop-number.invariant.turn c.loop-number.reader.inside)
 
-pub loop-number-preserved-in-Err-enter_placed : goal.loop-number-preserved-in-Err-enter_placed
-loop-number-preserved-in-Err-enter_placed g c =
-    let told = rw c.loop-number.invariant.schedule at c.in-Err-enter_placed.ensures in
+pub loop-number-preserved-in-Err-enter_located : goal.loop-number-preserved-in-Err-enter_located
+loop-number-preserved-in-Err-enter_located g c =
+    let told = rw c.loop-number.invariant.schedule at c.in-Err-enter_located.ensures in
     let steps = c.in-Some.ensures.steps in
     record {
       schedule = told.schedule;
-      turn = refused_on c.loop-number.invariant.turn c.in-Ok-Some.placed (search rules) (ap (λ (bytes : Bor (List ℕ)). bytes.now) c.next_record.ensures.same) c.next_record.ensures.moves told.leaves (omega (arith, steps))
+      turn = refused_on c.loop-number.invariant.turn c.in-Ok-Some.located (search rules) (ap (λ (bytes : Bor (List ℕ)). bytes.now) c.next_record.ensures.same) c.next_record.ensures.moves told.leaves (omega (arith, steps))
           told.answers steps.0 (rw c.unwrap.ensures at c.push.ensures.items) (rw c.unwrap.ensures at c.push.ensures.len) c.push.ensures.capacity;
     }
 
@@ -28,7 +28,7 @@ loop-number-preserved g c =
     let told = rw c.loop-number.invariant.schedule at c.in_default.ensures in
     record {
       schedule = told.schedule;
-      turn = accepted_on c.loop-number.invariant.turn c.in-Ok-Some.placed (search rules) (ap (λ (bytes : Bor (List ℕ)). bytes.now) c.next_record.ensures.same) c.next_record.ensures.moves told.leaves (omega (arith, c.in-Some.ensures.steps))
+      turn = accepted_on c.loop-number.invariant.turn c.in-Ok-Some.located (search rules) (ap (λ (bytes : Bor (List ℕ)). bytes.now) c.next_record.ensures.same) c.next_record.ensures.moves told.leaves (omega (arith, c.in-Some.ensures.steps))
           told.answers refl refl (omega arith);
     }
 

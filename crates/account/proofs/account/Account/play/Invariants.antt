@@ -1,6 +1,6 @@
 use Rattle.std.proofs.Common.{◌≡◌, vec_len}
 use Rattle.std.specs.Vec.{vec_capacity}
-use Rattle.history.specs.Prices.{tariff_by}
+use Rattle.ledger.specs.Prices.{tariff_by}
 use Rattle.account.proofs.Turns.{Sofar}
 use Rattle.account.proofs.account.Account.play.Given as goal
 

@@ -23,15 +23,15 @@ returns-then-not-is_complete-clause-is g c =
 
 pub returns-else-is_err-clause-is : goal.returns-else-is_err-clause-is
 returns-else-is_err-clause-is g c =
-    c.bring-brought.ensures.is ∙
+    c.true_up-trued_up.ensures.is ∙
     closed _ _ _ c.self.view_is _ _ _ _ (opened_by _ c.args.terms.now.settlement) _ c.in_ok-month.ensures _ c.in_ok-closing.ensures _ (c.if-month-count.false ∙ c.count.ensures) (sym c.if-not-is_complete.ensures) c.close_next.ensures
 
 pub returns-then-is_err-clause-is : goal.returns-then-is_err-clause-is
 returns-then-is_err-clause-is g c =
-    refused_alike c.bring-brought.result _ _ c.if-is_err.ensures.value ∙ c.bring-brought.ensures.is ∙
+    refused_alike c.true_up-trued_up.result _ _ c.if-is_err.ensures.value ∙ c.true_up-trued_up.ensures.is ∙
     closed _ _ _ c.self.view_is _ _ _ _ (opened_by _ c.args.terms.now.settlement) _ c.in_ok-month.ensures _ c.in_ok-closing.ensures _ (c.if-month-count.false ∙ c.count.ensures) (sym c.if-not-is_complete.ensures) c.close_next.ensures
 
 pub returns-then-is_err-clause-unchanged : goal.returns-then-is_err-clause-unchanged
 returns-then-is_err-clause-unchanged g c =
-    if_refused c.bring-brought.result _ _ c.if-is_err.ensures.value c.bring-brought.ensures.unchanged
-    (λ stays. reopened c.args.self.now c.close_next.new.self c.bring-brought.new.self _ _ c.close_next.ensures stays c.reopen_last.ensures)
+    if_refused c.true_up-trued_up.result _ _ c.if-is_err.ensures.value c.true_up-trued_up.ensures.unchanged
+    (λ stays. reopened c.args.self.now c.close_next.new.self c.true_up-trued_up.new.self _ _ c.close_next.ensures stays c.reopen_last.ensures)

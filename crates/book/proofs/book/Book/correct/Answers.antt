@@ -12,15 +12,15 @@ returns-in_default-clause-is g c = not_posted _ _ _ c.self.view_is _ _ _ _ _ (op
 
 pub returns-else-is_err-clause-is : goal.returns-else-is_err-clause-is
 returns-else-is_err-clause-is g c =
-    c.bring-brought.ensures.is ∙
+    c.true_up-trued_up.ensures.is ∙
     corrects _ _ _ c.self.view_is _ _ _ _ _ (opened_by _ c.args.terms.now.settlement) _ _ c.in_ok-dated.ensures.refused c.in_ok-dated.ensures.place c.exchange.ensures.before _ _ _ (sym c.in-Some.is) c.in_ok-dated.ensures.made c.in-Some.ensures.after
 
 pub returns-then-is_err-clause-is : goal.returns-then-is_err-clause-is
 returns-then-is_err-clause-is g c =
-    refused_alike c.bring-brought.result _ _ c.if-is_err.ensures.value ∙ c.bring-brought.ensures.is ∙
+    refused_alike c.true_up-trued_up.result _ _ c.if-is_err.ensures.value ∙ c.true_up-trued_up.ensures.is ∙
     corrects _ _ _ c.self.view_is _ _ _ _ _ (opened_by _ c.args.terms.now.settlement) _ _ c.in_ok-dated.ensures.refused c.in_ok-dated.ensures.place c.exchange.ensures.before _ _ _ (sym c.in-Some.is) c.in_ok-dated.ensures.made c.in-Some.ensures.after
 
 pub returns-then-is_err-clause-unchanged : goal.returns-then-is_err-clause-unchanged
 returns-then-is_err-clause-unchanged g c =
-    if_refused c.bring-brought.result _ _ c.if-is_err.ensures.value c.bring-brought.ensures.unchanged
-    (λ stays. restored c.args.self.now c.exchange.new.self c.bring-brought.new.self _ c.in_ok-dated.dated.place.index c.in_ok-dated.dated.record c.in-Some.before c.in-Some.ensures.before c.in-Some.ensures.after stays c.store.ensures)
+    if_refused c.true_up-trued_up.result _ _ c.if-is_err.ensures.value c.true_up-trued_up.ensures.unchanged
+    (λ stays. restored c.args.self.now c.exchange.new.self c.true_up-trued_up.new.self _ c.in_ok-dated.dated.place.index c.in_ok-dated.dated.record c.in-Some.before c.in-Some.ensures.before c.in-Some.ensures.after stays c.store.ensures)

@@ -11,4 +11,4 @@ returns-then-count-opening-clause-is g c =
 pub returns-clause-is : goal.returns-clause-is
 returns-clause-is g c =
     let t = c.args.settlement.now in
-    c.bring.ensures.is ∙ settles _ _ _ c.self.view_is (opening_numbers c.args.opening.now) (settlement_numbers t) _ t.final_increase.whole t.interest.whole (rw (sym c.count.ensures) c.if-count-opening.false)
+    c.true_up.ensures.is ∙ settles _ _ _ c.self.view_is (opening_numbers c.args.opening.now) (settlement_numbers t) _ t.final_increase.whole t.interest.whole (rw (sym c.count.ensures) c.if-count-opening.false)

@@ -1,4 +1,4 @@
-use Rattle.history.specs.Year.{not_opened}
+use Rattle.ledger.specs.Year.{not_opened}
 use Rattle.book.specs.Years.{year_by}
 use Rattle.book.proofs.OpenMonths.{month_fits, month_more}
 use Rattle.book.proofs.year.MeterYear.open_therms.Goals as goal

@@ -1,0 +1,11 @@
+// Cases worked out by hand, of which the definitions are proved to say what was expected.
+ghost use Rattle.std.specs.Prelude.{◌≡◌, length};
+ghost use Rattle.classes.specs.Worked.{EdgesAsExpected, edges};
+
+// How many days, months and unauthorized uses at the edges of the rules come to what was expected.
+pub fn worked_edges() -> u8
+    ensures count { result ≡ length edges }
+    ensures expected { EdgesAsExpected }
+{
+    9
+}

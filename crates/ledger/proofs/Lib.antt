@@ -1,0 +1,10 @@
+pub mod Accounted
+pub mod TruingUp
+pub mod Collected
+pub mod Dated
+pub mod Known
+pub mod Law
+pub mod Months
+pub mod Places
+pub mod Storing
+pub mod Totals
