@@ -9,7 +9,8 @@ use Rattle.gas.specs.Limits.{Answer}
 use Rattle.ledger.specs.declared.faults.AccountFault.{AccountFault}
 use Rattle.ledger.specs.declared.faults.AccountFault.TheVariants as fault
 use Rattle.ledger.specs.Calls.{Call, State, closing, correction, opening, outcome, payment, posting, settling, tests}
-use Rattle.ledger.specs.Prices.{tariff_by}
+use Rattle.gas.specs.Tariffs.{Tariff}
+
 use Rattle.ledger.specs.Year.{Standing, not_opened, running, settled}
 use Rattle.book.specs.Books.{Contents, state_of}
 use Rattle.book.proofs.Outcomes.{refused}
@@ -40,24 +41,24 @@ unopened not_opened f e = (refl, cc)
 unopened (running o) f e = absurd cc
 unopened (settled o t) f e = absurd cc
 
-module _ {S : Type 0} (unauthorized : S → DayRecord → ℕ) (price : S → MonthFacts → Item → Answer) (a : Holding S) (c : Call) where
+module _ {S : Type 0} (tariff : S → Tariff) (a : Holding S) (c : Call) where
   -- a test of it fails
-  pub fails : (f : AccountFault) → first_failure (tests c a.state.year) ≡ Some f → Called unauthorized price a c (Err f) a
+  pub fails : (f : AccountFault) → first_failure (tests c a.state.year) ≡ Some f → Called tariff a c (Err f) a
   fails f e =
-      let is = refused (tariff_by (unauthorized a.schedule) (price a.schedule)) c a.state f e in
+      let is = refused (tariff a.schedule) c a.state f e in
       record { step = (rw (sym is) refl, rw (sym is) refl); schedule = refl; refused = refl }
 
   -- what `?` hands on
-  pub handed_on : (r : Result (Unit {0}) AccountFault) (f : AccountFault) → IsErr r → IsErrAnd r (λ e. e ≡ f) → first_failure (tests c a.state.year) ≡ Some f → Called unauthorized price a c r a
+  pub handed_on : (r : Result (Unit {0}) AccountFault) (f : AccountFault) → IsErr r → IsErrAnd r (λ e. e ≡ f) → first_failure (tests c a.state.year) ≡ Some f → Called tariff a c r a
   handed_on (Ok u) f is one e = absurd cc
   handed_on (Err g) f is one e = fails g (e ∙ rw one refl)
 
   -- what `?` hands on of the standing, where the account is not opened
-  pub not_opened_yet : (sch : S) (st : Standing) (b : Contents) → record { schedule = sch; state = state_of st b } ≡ a → (r : Result (Unit {0}) AccountFault) (f : AccountFault) → IsErr r → IsErrAnd r (λ e. e ≡ f) → needs_opening c ≡ true → Err f ≡ opened_standing st → Called unauthorized price a c r a
+  pub not_opened_yet : (sch : S) (st : Standing) (b : Contents) → record { schedule = sch; state = state_of st b } ≡ a → (r : Result (Unit {0}) AccountFault) (f : AccountFault) → IsErr r → IsErrAnd r (λ e. e ≡ f) → needs_opening c ≡ true → Err f ≡ opened_standing st → Called tariff a c r a
   not_opened_yet sch st b same r f is one needs e =
       let both = unopened st f e in
       handed_on r f is one (rw (both.1, sym same) (before_opening c (state_of st b) needs both.0))
 
   -- it is accepted
-  pub accepted : (b : Holding S) → outcome (tariff_by (unauthorized a.schedule) (price a.schedule)) c a.state ≡ Ok b.state → b.schedule ≡ a.schedule → Called unauthorized price a c (Ok tt) b
+  pub accepted : (b : Holding S) → outcome (tariff a.schedule) c a.state ≡ Ok b.state → b.schedule ≡ a.schedule → Called tariff a c (Ok tt) b
   accepted b is same = record { step = (rw is refl, rw is refl); schedule = same; refused = tt }

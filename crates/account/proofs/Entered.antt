@@ -16,9 +16,9 @@ use Rattle.account.specs.Journals.{call_of}
 use Rattle.account.proofs.Answered.{before_opening, fails, needs_opening}
 use Rattle.account.proofs.Openings.{opened_already}
 
-module _ {S : Type 0} (unauthorized : S → DayRecord → ℕ) (price : S → MonthFacts → Item → Answer) (sch : S) (at : code.Standing) (b : Contents) (a : Holding S) (same : record { schedule = sch; state = state_of (standing_now at) b } ≡ a) (r : Record) where
-  pub entered_unopened : at ≡ code.TheVariants.NotOpened → needs_opening (call_of r) ≡ true → Called unauthorized price a (call_of r) (Err fault.NotOpened) a
-  entered_unopened new needs = fails unauthorized price a (call_of r) fault.NotOpened (before_opening (call_of r) a.state needs (rw (sym same, new) refl))
+module _ {S : Type 0} (tariff : S → Tariff) (sch : S) (at : code.Standing) (b : Contents) (a : Holding S) (same : record { schedule = sch; state = state_of (standing_now at) b } ≡ a) (r : Record) where
+  pub entered_unopened : at ≡ code.TheVariants.NotOpened → needs_opening (call_of r) ≡ true → Called tariff a (call_of r) (Err fault.NotOpened) a
+  entered_unopened new needs = fails tariff a (call_of r) fault.NotOpened (before_opening (call_of r) a.state needs (rw (sym same, new) refl))
 
-  pub entered_opened : (leap increase first last : ℕ) → (at ≡ code.TheVariants.NotOpened → ⊥) → r ≡ record_kind.Open leap increase first last → Called unauthorized price a (call_of r) (Err fault.OpenedAlready) a
-  entered_opened leap increase first last other is = rw is (opened_already unauthorized price sch at b a same leap increase first last other)
+  pub entered_opened : (leap increase first last : ℕ) → (at ≡ code.TheVariants.NotOpened → ⊥) → r ≡ record_kind.Open leap increase first last → Called tariff a (call_of r) (Err fault.OpenedAlready) a
+  entered_opened leap increase first last other is = rw is (opened_already tariff sch at b a same leap increase first last other)

@@ -39,19 +39,19 @@ held : (ok : Bool) (g : AccountFault) → None ≡ first_failure ((ok, g) ∷ []
 held true g e = refl
 held false g e = absurd cc
 
-module _ {S : Type 0} (unauthorized : S → DayRecord → ℕ) (price : S → MonthFacts → Item → Answer) (sch : S) (st by : Standing) (b : Contents) (a : Holding S) (same : record { schedule = sch; state = state_of st b } ≡ a) (opened : Ok by ≡ opened_standing st) (final interest : ℕ) where
+module _ {S : Type 0} (tariff : S → Tariff) (sch : S) (st by : Standing) (b : Contents) (a : Holding S) (same : record { schedule = sch; state = state_of st b } ≡ a) (opened : Ok by ≡ opened_standing st) (final interest : ℕ) where
   standing_is : a.state.year.standing ≡ by
   standing_is = rw (sym same) (opened_is st by opened).0
 
   pub settlement_refused : (r : Result (Unit {0}) AccountFault) (f : AccountFault) → IsErr r → IsErrAnd r (λ e. e ≡ f) → Some f ≡ first_failure (settlement_input (record { final_increase = final; interest = interest }) ∷ []) →
-      Called unauthorized price a (settling (record { final_increase = final; interest = interest })) r a
+      Called tariff a (settling (record { final_increase = final; interest = interest })) r a
   settlement_refused r f is one e =
       let test = failed (leb final MOST_PER_MILLE && leb interest MOST_PER_MILLE) f (fault.Input input.PerMille) e in
-      handed_on unauthorized price a _ r f is one (rw (standing_is, (opened_is st by opened).1, test.0, test.1) refl)
+      handed_on tariff a _ r f is one (rw (standing_is, (opened_is st by opened).1, test.0, test.1) refl)
 
   pub settled_already : (o : Opening) (t : Option SettlementTerms) → None ≡ first_failure (settlement_input (record { final_increase = final; interest = interest }) ∷ []) → by ≡ standing_by o t → true ≡ is_some t →
-      Called unauthorized price a (settling (record { final_increase = final; interest = interest })) (Err fault.SettledAlready) a
+      Called tariff a (settling (record { final_increase = final; interest = interest })) (Err fault.SettledAlready) a
   settled_already o t e terms is =
       let test = held (leb final MOST_PER_MILLE && leb interest MOST_PER_MILLE) (fault.Input input.PerMille) e in
       let opened_by : is_opened (standing_by o t) ≡ true = rw (sym terms) (opened_is st by opened).1 in
-      fails unauthorized price a _ fault.SettledAlready (rw (standing_is, terms, opened_by, test, settled_is o t is) refl)
+      fails tariff a _ fault.SettledAlready (rw (standing_is, terms, opened_by, test, settled_is o t is) refl)

@@ -2,7 +2,8 @@
 use Rattle.std.proofs.Common.{◌≡◌, ℕ, ◌+◌, ◌*◌, ◌/◌, ◌<◌, ◌≤◌, List, [], ◌∷◌, ◌++◌, length, Some, None, Ok, Err, Option, Result, refl, sym, ap, ◌∙◌, subst, append_assoc, append-nil, arith}
 use Rattle.ledger.specs.declared.faults.AccountFault.{AccountFault}
 use Rattle.ledger.specs.Calls.{State}
-use Rattle.ledger.specs.Prices.{Tariff}
+use Rattle.gas.specs.Tariffs.{Tariff}
+
 use Rattle.ledger.specs.Runs.{History, Run, left_by, refusal_by}
 use Rattle.ledger.proofs.Law.{runs_add_up}
 use Rattle.journal.specs.declared.faults.ReadFault.{ReadFault}

@@ -7,14 +7,15 @@ use Rattle.gas.specs.Facts.{MonthFacts}
 use Rattle.gas.specs.Limits.{Answer}
 use Rattle.ledger.specs.declared.faults.AccountFault.{AccountFault}
 use Rattle.ledger.specs.Calls.{Call}
-use Rattle.ledger.specs.Prices.{tariff_by}
+use Rattle.gas.specs.Tariffs.{Tariff}
+
 use Rattle.ledger.specs.Runs.{Step}
 use Rattle.account.specs.Holdings.{Holding}
 
 -- step: on the tariff of the account's schedule, the answer and what the account then knows and has written are those of the call's outcome
 -- schedule: it stays
 -- refused: a refused call leaves the whole account as it was; this follows from the two before, as an account has no other part
-pub record Called {S : Type 0} (unauthorized : S → DayRecord → ℕ) (price : S → MonthFacts → Item → Answer) (a : Holding S) (c : Call) (answer : Result (Unit {0}) AccountFault) (b : Holding S) : Type 0 where
-  pub step : Step (tariff_by (unauthorized a.schedule) (price a.schedule)) a.state (record { call = c; refusal = result_err answer }) b.state
+pub record Called {S : Type 0} (tariff : S → Tariff) (a : Holding S) (c : Call) (answer : Result (Unit {0}) AccountFault) (b : Holding S) : Type 0 where
+  pub step : Step (tariff a.schedule) a.state (record { call = c; refusal = result_err answer }) b.state
   pub schedule : b.schedule ≡ a.schedule
   pub refused : OnErr answer (b ≡ a)

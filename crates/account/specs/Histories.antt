@@ -4,7 +4,8 @@ use Rattle.gas.specs.declared.day.DayRecord.{DayRecord}
 use Rattle.gas.specs.declared.items.Item.{Item}
 use Rattle.gas.specs.Facts.{MonthFacts}
 use Rattle.gas.specs.Limits.{Answer}
-use Rattle.ledger.specs.Prices.{Tariff, tariff_by}
+use Rattle.gas.specs.Tariffs.{Tariff}
+
 use Rattle.ledger.specs.Runs.{AddsUp, History, Run, known}
 use Rattle.account.specs.Holdings.{Holding}
 
@@ -12,5 +13,5 @@ use Rattle.account.specs.Holdings.{Holding}
 abbrev pub AddsUpByItsHistories :
     {S : Type 0} → (S → DayRecord → ℕ) → (S → MonthFacts → Item → Answer) → Holding S → ℤ → Type 0
 AddsUpByItsHistories unauthorized price a still_open =
-    let s : Tariff = tariff_by (unauthorized a.schedule) (price a.schedule) in
+    let s : Tariff = tariff a.schedule in
     (h : History) → Run s h a.state → AddsUp s (known h) a.state still_open

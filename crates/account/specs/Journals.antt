@@ -4,7 +4,8 @@ use Rattle.std.specs.Result.{result_map_both}
 use Rattle.gas.specs.declared.day.DayNumbers.{DayNumbers}
 use Rattle.ledger.specs.declared.faults.AccountFault.{AccountFault}
 use Rattle.ledger.specs.Calls.{Call, State, closing, correction, opening, payment, posting, settling}
-use Rattle.ledger.specs.Prices.{Tariff}
+use Rattle.gas.specs.Tariffs.{Tariff}
+
 use Rattle.ledger.specs.Runs.{Entry, History, left_by, refusal_by}
 use Rattle.journal.specs.declared.faults.ReadFault.{ReadFault}
 use Rattle.journal.specs.declared.kinds.Day.{Day}

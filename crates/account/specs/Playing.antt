@@ -1,7 +1,8 @@
 -- What playing a journal makes of an account, and the law on it.
 use Rattle.std.specs.Prelude.{◌≡◌, ℕ, List, Option}
 use Rattle.ledger.specs.Calls.{State}
-use Rattle.ledger.specs.Prices.{Tariff, open_therms}
+use Rattle.gas.specs.Tariffs.{Tariff}
+use Rattle.ledger.specs.Prices.{open_therms}
 use Rattle.ledger.specs.Runs.{AddsUp, History, Run, known}
 use Rattle.journal.specs.declared.faults.ReadFault.{ReadFault}
 use Rattle.journal.specs.declared.kinds.Located.{Located}

@@ -12,7 +12,8 @@ use Rattle.gas.specs.Made.{day_of}
 use Rattle.ledger.specs.Calls.{Call, State, Tests, by_account, correction, day_input, day_tests, year_after, most_lines, outcome, posting, tests, with_lines, lines_of_call}
 use Rattle.ledger.specs.Days.{Places, place_of}
 use Rattle.ledger.specs.Due.{lines_due_in}
-use Rattle.ledger.specs.Prices.{Tariff}
+use Rattle.gas.specs.Tariffs.{Tariff}
+
 use Rattle.ledger.specs.Year.{Opening, Standing, Year, is_opened}
 use Rattle.book.specs.Books.{Contents, state_of, with_days}
 use Rattle.book.specs.declared.year.MeterYear.{MeterYear}

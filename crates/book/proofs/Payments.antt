@@ -8,7 +8,8 @@ use Rattle.ledger.specs.declared.lines.Heading.TheVariants as heading
 use Rattle.ledger.specs.declared.lines.Line.{Line}
 use Rattle.ledger.specs.Calls.{most_lines, most_paid, outcome, payment, tests}
 use Rattle.ledger.specs.Headings.{line_of}
-use Rattle.ledger.specs.Prices.{Tariff}
+use Rattle.gas.specs.Tariffs.{Tariff}
+
 use Rattle.ledger.specs.Year.{Standing, is_opened}
 use Rattle.book.specs.declared.year.MeterYear.{MeterYear}
 use Rattle.book.specs.Books.{Contents, state_of, with_line}

@@ -1,4 +1,3 @@
 pub mod Classes
-pub mod Faults
 pub mod Unauthorized
 pub mod Worked

@@ -1,8 +1,9 @@
-// Cases worked out by hand, of which the definitions are proved to say what was expected.
+//! Cases worked out by hand, of which the definitions are proved to say what was expected.
 ghost use Rattle.std.specs.Prelude.{◌≡◌, length};
 ghost use Rattle.classes.specs.Worked.{EdgesAsExpected, edges};
 
-// How many days, months and unauthorized uses at the edges of the rules come to what was expected.
+/// How many days, months and unauthorized uses at the edges of the rules come to what was expected
+/// (`docs/TARIFF.md`).
 pub fn worked_edges() -> u8
     ensures count { result ≡ length edges }
     ensures expected { EdgesAsExpected }

@@ -1,28 +1,34 @@
 -- The six calls of an account, and the one outcome of each.
-use Rattle.std.specs.Prelude.{ℕ, ◌+◌, Bool, if◌then◌else◌, not, ◌&&◌, List, [], ◌∷◌, ◌++◌, length, map, pos, neg_ℤ, is_some, Some, None, Ok, Err, Result, ◌==◌, nat_le, nat_lt, slice_index_or, slice_set}
+use Rattle.std.specs.Prelude.{
+  ℕ, ◌+◌, Bool, if◌then◌else◌, not, ◌&&◌, List, [], ◌∷◌, ◌++◌, length, map, pos, neg_ℤ, is_some,
+  Some, None, Ok, Err, Result, ◌==◌, nat_le, nat_lt, slice_index_or, slice_set
+}
 use Rattle.std.specs.Int.{is_in_range}
 use Rattle.std.specs.List.{push}
 use Rattle.std.specs.Result.{result_map_both}
+use Rattle.gas.specs.declared.calendar.TheConstants.{LAST_MONTH}
 use Rattle.gas.specs.declared.day.DayNumbers.{DayNumbers}
 use Rattle.gas.specs.declared.day.DayRecord.{DayRecord}
 use Rattle.gas.specs.declared.faults.InputFault.{InputFault}
 use Rattle.gas.specs.declared.faults.InputFault.TheVariants as input
 use Rattle.gas.specs.declared.items.ScheduleFault.{ScheduleFault}
 use Rattle.gas.specs.declared.month.ClosingNumbers.{ClosingNumbers}
+use Rattle.gas.specs.declared.units.TheConstants.{MOST_PER_MILLE}
 use Rattle.gas.specs.Calendar.{month_length}
 use Rattle.gas.specs.Inputs.{first_failure, is_lawful_closing, tests_of_day, answer_unless}
 use Rattle.ledger.specs.declared.faults.AccountFault.{AccountFault}
 use Rattle.ledger.specs.declared.faults.AccountFault.TheVariants as fault
 use Rattle.ledger.specs.declared.lines.Heading.TheVariants as heading
 use Rattle.ledger.specs.declared.lines.Line.{Line}
+use Rattle.ledger.specs.declared.lines.TheConstants.{MOST_LINES, MOST_PAID}
 use Rattle.gas.specs.Made.{day_of}
 use Rattle.ledger.specs.Days.{Places, is_complete, place_of}
 use Rattle.ledger.specs.Due.{lines_due_in}
 use Rattle.ledger.specs.Headings.{line_of}
-use Rattle.ledger.specs.Prices.{Tariff}
-use Rattle.ledger.specs.Year.{Opening, Settlement, Year, is_opened, is_settled, opening_of, running, settled, unknown_year}
-use Rattle.gas.specs.declared.calendar.TheConstants.{LAST_MONTH}
-use Rattle.gas.specs.declared.units.TheConstants.{MOST_PER_MILLE}
+use Rattle.gas.specs.Tariffs.{Tariff}
+use Rattle.ledger.specs.Year.{
+  Opening, Settlement, Year, is_opened, is_settled, opening_of, running, settled, unknown_year
+}
 
 -- a call with its numbers as they came, lawful or not
 pub data Call : Type 0 where
@@ -52,63 +58,76 @@ abbrev pub input_test : Bool → InputFault → Bool × AccountFault
 input_test ok f = (ok, fault.Input f)
 
 -- the test that an account is opened, with its refusal
-abbrev pub opened : Year → Bool × AccountFault
-opened y = (is_opened y.standing, fault.NotOpened)
+abbrev pub opened_test : State → Bool × AccountFault
+opened_test a = (is_opened a.year.standing, fault.NotOpened)
 
--- the tests of an opening's numbers: of the interim months the last is 11 at most, and the first does not come after it; then the leap mark, and the increase
+-- the tests of an opening's numbers: of the interim months the last is 11 at most, and the first
+-- does
+-- not come after it; then the leap mark, and the increase
 abbrev pub opening_input : ℕ → Opening → Tests
 opening_input leap o =
-    input_test (nat_le o.last LAST_MONTH && nat_le o.first o.last) input.Month ∷ input_test (nat_le leap 1) input.Mark ∷
-    input_test (nat_le o.increase MOST_PER_MILLE) input.PerMille ∷ []
+    input_test (nat_le o.last LAST_MONTH && nat_le o.first o.last) input.Month ∷
+    input_test (nat_le leap 1) input.Mark ∷
+    input_test (nat_le o.increase MOST_PER_MILLE) input.Share ∷ []
 
--- the test of a settlement's numbers: the final increase and the interest are each at most the whole
+-- the test of a settlement's numbers: the final increase and the interest are each at most 1,000
 abbrev pub settlement_input : Settlement → Bool × AccountFault
-settlement_input t = input_test (nat_le t.final_increase MOST_PER_MILLE && nat_le t.interest MOST_PER_MILLE) input.PerMille
+settlement_input t =
+    input_test
+    (nat_le t.final_increase MOST_PER_MILLE && nat_le t.interest MOST_PER_MILLE) input.Share
 
 -- the tests of a day's numbers: a month, a day of it, and what the day was
 abbrev pub day_input : Bool → ℕ → ℕ → DayNumbers → Tests
 day_input leap month day n =
-    input_test (nat_le month LAST_MONTH) input.Month ∷ input_test (is_in_range 1 (month_length leap month) day) input.Day ∷
+    input_test (nat_le month LAST_MONTH) input.Month ∷
+    input_test (is_in_range 1 (month_length leap month) day) input.Day ∷
     map (λ t. input_test t.0 t.1) (tests_of_day n)
 
 -- the tests of a posting or a correction, of which the last is whether the day is posted or is not
-abbrev pub day_tests : Year → ℕ → ℕ → DayNumbers → Bool × AccountFault → Tests
-day_tests y month day n stored = opened y ∷ push (day_input y.leap month day n) stored
+abbrev pub day_tests : State → ℕ → ℕ → DayNumbers → Bool × AccountFault → Tests
+day_tests a month day n stands = opened_test a ∷ push (day_input a.year.leap month day n) stands
 
 -- a record stands at the place of a day
 abbrev pub is_posted : Year → ℕ → ℕ → Bool
 is_posted y month day = is_some (slice_index_or y.days (place_of month day) None)
 
--- the most that can be paid at once, 10^13
-abbrev pub most_paid : ℕ
-most_paid = 10000000000000
-
--- first whether the account is opened, then what is wrong with the input, lowest number first, then what else the state refuses, likewise
-abbrev pub tests : Call → Year → Tests
-tests (opening leap o) y = (not (is_opened y.standing), fault.OpenedAlready) ∷ opening_input leap o
-tests (posting month day n) y = day_tests y month day n (not (is_posted y month day), fault.PostedAlready)
-tests (correction month day n) y = day_tests y month day n (is_posted y month day, fault.NotPosted)
-tests (closing month numbers) y =
-    opened y ∷ input_test (nat_le month LAST_MONTH) input.Month ∷ input_test (is_lawful_closing numbers) input.Quantity ∷
-    ((month == length y.closings), fault.NotEarliest) ∷ (is_complete y.leap y.days month, fault.LacksDay) ∷ []
-tests (payment amount) y = opened y ∷ (is_in_range 1 most_paid amount, fault.Payment) ∷ []
-tests (settling t) y =
-    opened y ∷ settlement_input t ∷ (not (is_settled y.standing), fault.SettledAlready) ∷ (nat_lt (opening_of y.standing).last (length y.closings), fault.InterimOpen) ∷ []
+-- first whether the account is opened, then what is wrong with the input, lowest number first, then
+-- what else the state refuses, likewise
+abbrev pub tests : Call → State → Tests
+tests (opening leap o) a =
+    (not (is_opened a.year.standing), fault.OpenedAlready) ∷ opening_input leap o
+tests (posting month day n) a =
+    day_tests a month day n (not (is_posted a.year month day), fault.PostedAlready)
+tests (correction month day n) a =
+    day_tests a month day n (is_posted a.year month day, fault.NotPosted)
+tests (closing month numbers) a =
+    opened_test a ∷ input_test (nat_le month LAST_MONTH) input.Month ∷
+    input_test (is_lawful_closing numbers) input.Quantity ∷
+    ((month == length a.year.closings), fault.NotEarliest) ∷
+    (is_complete a.year.leap a.year.days month, fault.LacksDay) ∷ []
+tests (payment amount) a =
+    opened_test a ∷ input_test (is_in_range 1 MOST_PAID amount) input.Payment ∷ []
+tests (settling t) a =
+    opened_test a ∷ settlement_input t ∷
+    (not (is_settled a.year.standing), fault.SettledAlready) ∷
+    (nat_lt (opening_of a.year.standing).last (length a.year.closings), fault.InterimOpen) ∷ []
 
 -- the days with one more or another record
-abbrev pub stored : Result DayRecord InputFault → Places → ℕ → Places
-stored (Ok day) days place = slice_set days place (Some day)
-stored (Err e) days place = days
+abbrev pub days_with : Result DayRecord InputFault → Places → ℕ → Places
+days_with (Ok day) days place = slice_set days place (Some day)
+days_with (Err e) days place = days
 
 -- a year with the record of a day, posted or put in another's place
 abbrev pub with_day : Year → ℕ → ℕ → DayNumbers → Year
-with_day y month day n = record y { days = stored (day_of n) y.days (place_of month day) }
+with_day y month day n =
+    record y { days = days_with (day_of n) y.days (place_of month day) }
 
 -- the year as known after a call that was accepted
 -- an opening begins it; nothing is known of an account that is not opened, so its arguments are all
 -- that an opening puts down
 abbrev pub year_after : Call → Year → Year
-year_after (opening leap o) y = record unknown_year { standing = running o; leap = (leap == 1) }
+year_after (opening leap o) y =
+    record unknown_year { standing = running o; leap = (leap == 1) }
 year_after (posting month day n) y = with_day y month day n
 year_after (correction month day n) y = with_day y month day n
 year_after (closing month numbers) y = record y { closings = push y.closings numbers }
@@ -120,25 +139,29 @@ abbrev pub by_account : {A : Type 0} → Result A ScheduleFault → Result A Acc
 by_account r = result_map_both (λ a. a) fault.Schedule r
 
 -- the lines that a call writes in the year as known after it, or the fault of a price
-abbrev pub lines_of_call : Tariff → Call → Year → List Line → Result (List Line) AccountFault
+abbrev pub lines_of_call :
+    Tariff → Call → Year → List Line → Result (List Line) AccountFault
 lines_of_call s (opening leap o) y lines = Ok []
 lines_of_call s (posting month day n) y lines = Ok []
 lines_of_call s (correction month day n) y lines = by_account (lines_due_in s y lines)
 lines_of_call s (closing month numbers) y lines = by_account (lines_due_in s y lines)
-lines_of_call s (payment amount) y lines = Ok (line_of heading.Payment (pos 0) (neg_ℤ (pos amount)) ∷ [])
+lines_of_call s (payment amount) y lines =
+    Ok (line_of heading.Payment (pos 0) (neg_ℤ (pos amount)) ∷ [])
 lines_of_call s (settling t) y lines = by_account (lines_due_in s y lines)
 
--- an account has room for 1,024 lines
-abbrev pub most_lines : ℕ
-most_lines = 1024
-
--- the account with some lines more; refused by the fault of a price, else where there is no room for all of them
-abbrev pub with_lines : Year → List Line → Result (List Line) AccountFault → Result State AccountFault
-with_lines y lines (Ok more) = if nat_le (length lines + length more) most_lines then Ok (record { year = y; lines = lines ++ more }) else Err fault.NoRoom
+-- the account with some lines more; refused by the fault of a price, else where there is no room
+-- for
+-- all of them
+abbrev pub with_lines :
+    Year → List Line → Result (List Line) AccountFault → Result State AccountFault
+with_lines y lines (Ok more) =
+    if nat_le (length lines + length more) MOST_LINES
+    then Ok (record { year = y; lines = lines ++ more })
+    else Err fault.NoRoom
 with_lines y lines (Err e) = Err e
 
 -- the one outcome of a call: the account after it, or its refusal
 unfoldable pub outcome : Tariff → Call → State → Result State AccountFault
 outcome s c a =
-    answer_unless (first_failure (tests c a.year))
+    answer_unless (first_failure (tests c a))
     (with_lines (year_after c a.year) a.lines (lines_of_call s c (year_after c a.year) a.lines))

@@ -2,7 +2,10 @@
 -- Words:
 -- a place, where a day's record stands or does not stand: 31 for each month, in the order of dates
 -- a day is posted where its place has a record
-use Rattle.std.specs.Prelude.{◌≡◌, ℕ, ◌+◌, ◌-◌, ◌*◌, ◌≤◌, Bool, if◌then◌else◌, ◌&&◌, List, length, take, drop, ℤ, pos, ◌-ℤ◌, Some, None, sum_by, Option, ◌==◌, nat_le, nat_lt, false}
+use Rattle.std.specs.Prelude.{
+  ◌≡◌, ℕ, ◌+◌, ◌-◌, ◌*◌, ◌≤◌, Bool, if◌then◌else◌, ◌&&◌, List, length, take, drop, ℤ, pos, ◌-ℤ◌,
+  Some, None, sum_by, Option, ◌==◌, nat_le, nat_lt, false
+}
 use Rattle.std.specs.List.{flat_map, position}
 use Rattle.std.specs.Option.{option_to_list}
 use Rattle.gas.specs.declared.day.DayRecord.{DayRecord}
@@ -63,4 +66,8 @@ place_of_first unauthorized days = position (is_unauthorized unauthorized) days
 -- the number, in a month, of the day at a place, if it is a day of that month
 abbrev pub day_of_first : Bool → Option ℕ → ℕ → Option ℕ
 day_of_first leap None month = None
-day_of_first leap (Some place) month = if nat_le (month_place month) place && nat_lt place (month_place month + month_length leap month) then Some (place - month_place month + 1) else None
+day_of_first leap (Some place) month =
+    let start : ℕ = month_place month in
+    if nat_le start place && nat_lt place (start + month_length leap month)
+    then Some (place - start + 1)
+    else None

@@ -3,12 +3,15 @@ use Rattle.std.specs.Prelude.{ℕ, Some, None, Option}
 use Rattle.gas.specs.declared.items.PriceValues.{PriceValues}
 use Rattle.gas.specs.Faults.{input_number, schedule_values}
 use Rattle.ledger.specs.declared.faults.AccountFault.{AccountFault}
-use Rattle.ledger.specs.declared.faults.AccountFault.TheVariants.{Input, Payment, NotOpened, OpenedAlready, PostedAlready, NotPosted, NotEarliest, LacksDay, SettledAlready, InterimOpen, Schedule, NoRoom, NoLine}
+use Rattle.ledger.specs.declared.faults.AccountFault.TheVariants.{
+  Input, NotOpened, OpenedAlready, PostedAlready, NotPosted, NotEarliest, LacksDay, SettledAlready,
+  InterimOpen, Schedule, NoRoom, NoLine
+}
 
--- 28 comes with the month, the item and the layer at which the amount passed its limit; the others with nothing
+-- 28 comes with the month, the item and the layer at which the amount passed its limit; the others
+-- with nothing
 abbrev pub account_values : AccountFault → ℕ × Option PriceValues
 account_values (Input fault) = (input_number fault, None)
-account_values Payment = (9, None)
 account_values NotOpened = (20, None)
 account_values OpenedAlready = (21, None)
 account_values PostedAlready = (22, None)

@@ -1,5 +1,7 @@
 -- The peak day of a month.
-use Rattle.std.specs.Prelude.{◌≡◌, ℕ, ◌-◌, ◌≤◌, true, [], Some, None, Option, nat_le, slice_index_or}
+use Rattle.std.specs.Prelude.{
+  ◌≡◌, ℕ, ◌-◌, ◌≤◌, true, [], Some, None, Option, nat_le, slice_index_or
+}
 use Rattle.std.specs.List.{list_all}
 use Rattle.gas.specs.declared.day.DayRecord.{DayRecord}
 use Rattle.gas.specs.Day.{reading_of}
@@ -12,7 +14,8 @@ pub record HasPeak (places : Places) (day : ℕ) : Type 0 where
   pub posted : slice_index_or places (day - 1) None ≡ Some peak
   pub greatest : list_all (λ d. nat_le (reading_of d) (reading_of peak)) (posted_in places) ≡ true
 
--- the peak day of a month's places, or none where no day is posted; where several have the greatest reading, it is not laid down which
+-- the peak day of a month's places, or none where no day is posted; where several have the greatest
+-- reading, it is not laid down which
 abbrev pub IsPeak : Places → Option ℕ → Type 0
 IsPeak places None = posted_in places ≡ []
 IsPeak places (Some day) = HasPeak places day

@@ -2,7 +2,10 @@
 -- Words:
 -- a history, the calls so far with their answers, the newest first
 -- a run, what a new account has become by a history
-use Rattle.std.specs.Prelude.{◌≡◌, ℕ, ◌<◌, ◌≤◌, true, false, if◌then◌else◌, List, [], ◌∷◌, length, ℤ, ◌+ℤ◌, Some, None, Ok, Option, ◌==◌, is_some, slice_index_or}
+use Rattle.std.specs.Prelude.{
+  ◌≡◌, ℕ, ◌<◌, ◌≤◌, true, false, if◌then◌else◌, List, [], ◌∷◌, length, ℤ, ◌+ℤ◌, Some, None, Ok,
+  Option, ◌==◌, is_some, slice_index_or
+}
 use Rattle.std.specs.Int.{int_min}
 use Rattle.std.specs.Result.{result_err, result_unwrap_or}
 use Rattle.gas.specs.declared.day.DayRecord.{DayRecord}
@@ -14,10 +17,15 @@ use Rattle.ledger.specs.declared.lines.Heading.TheVariants.{Priced, Refund}
 use Rattle.ledger.specs.declared.lines.Line.{Line}
 use Rattle.ledger.specs.Calls.{Call, State, year_after, outcome}
 use Rattle.ledger.specs.Days.{IsDayPlace, net_therms, posted_in}
-use Rattle.ledger.specs.Headings.{heading_item, heading_month, money_on, sum_under, sum_where, therms_on}
-use Rattle.ledger.specs.Prices.{Tariff, open_therms, price_at, price_of}
+use Rattle.ledger.specs.Headings.{
+  heading_item, heading_month, money_on, sum_under, sum_where, therms_on
+}
+use Rattle.gas.specs.Tariffs.{Tariff}
+use Rattle.ledger.specs.Prices.{open_therms, price_at, price_of}
 use Rattle.ledger.specs.Sums.{sum_z}
-use Rattle.ledger.specs.Year.{Opening, Settlement, Year, interim_months, is_interim, is_opened, settled, unknown_year}
+use Rattle.ledger.specs.Year.{
+  Opening, Settlement, Year, interim_months, is_interim, is_opened, settled, unknown_year
+}
 use Rattle.gas.specs.declared.calendar.TheConstants.{LAST_MONTH}
 
 -- a call and its answer: none if it was accepted, else the refusal
@@ -30,9 +38,9 @@ abbrev pub History : Type 0
 History = List Entry
 
 -- the year as known from the calls alone; a refused one tells nothing
-abbrev pub known : History → Year
-known [] = unknown_year
-known (e ∷ h) = if is_some e.refusal then known h else year_after e.call (known h)
+abbrev pub known_year : History → Year
+known_year [] = unknown_year
+known_year (e ∷ h) = if is_some e.refusal then known_year h else year_after e.call (known_year h)
 
 -- a new account knows nothing and has written nothing
 abbrev pub new_state : State
@@ -46,7 +54,8 @@ refusal_by s c a = result_err (outcome s c a)
 abbrev pub left_by : Tariff → Call → State → State
 left_by s c a = result_unwrap_or (outcome s c a) a
 
--- a call that found the account a, answered as the entry says and left b: both are those of its outcome
+-- a call that found the account a, answered as the entry says and left b: both are those of its
+-- outcome
 abbrev pub Step : Tariff → State → Entry → State → Type 0
 Step s a e b = (e.refusal ≡ refusal_by s e.call a) × (b ≡ left_by s e.call a)
 
@@ -57,7 +66,8 @@ Run s (e ∷ h) b = (a : State) × Run s h a × Step s a e b
 
 -- the therms of all monthly balancing lines
 abbrev pub balanced_therms : List Line → ℤ
-balanced_therms lines = sum_where (λ h. heading_item h == item_number MonthlyBalancing) therms_on lines
+balanced_therms lines =
+    sum_where (λ h. heading_item h == item_number MonthlyBalancing) therms_on lines
 
 -- the money of all lines of the interim months
 abbrev pub interim_lines : Opening → List Line → ℤ
@@ -116,4 +126,5 @@ pub record AddsUp (s : Tariff) (y : Year) (a : State) (still_open : ℤ) : Type 
 -- the law of all runs: for every tariff, history and account
 abbrev pub RunsAddUp : Type 0
 RunsAddUp =
-    (s : Tariff) (h : History) (b : State) → Run s h b → AddsUp s (known h) b (open_therms b.year)
+    (s : Tariff) (h : History) (b : State) → Run s h b →
+    AddsUp s (known_year h) b (open_therms b.year)

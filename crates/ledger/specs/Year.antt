@@ -1,11 +1,14 @@
 -- The year as it is known from the calls that were accepted.
-use Rattle.std.specs.Prelude.{◌≡◌, ℕ, ◌+◌, ◌-◌, ◌<◌, Bool, true, false, List, [], length, replicate, None}
+use Rattle.std.specs.Prelude.{
+  ◌≡◌, ℕ, ◌+◌, ◌-◌, ◌<◌, Bool, true, false, List, [], length, replicate, None
+}
 use Rattle.std.specs.Int.{is_in_range}
 use Rattle.std.specs.List.{filter, range_with_len}
 use Rattle.gas.specs.declared.month.ClosingNumbers.{ClosingNumbers}
 use Rattle.ledger.specs.Days.{Places, is_complete, month_place}
 
--- what the opening says of the interim rate: the increase, per mille, and the first and the last interim month
+-- what the opening says of the interim rate: the increase, per mille, and the first and the last
+-- interim month
 pub record Opening : Type 0 where
   pub increase : ℕ
   pub first : ℕ
@@ -22,7 +25,8 @@ pub data Standing : Type 0 where
   running : Opening → Standing
   settled : Opening → Settlement → Standing
 
--- the standing, whether it is a leap year, the days, and the numbers that closed the months so far, from November on
+-- the standing, whether it is a leap year, the days, and the numbers that closed the months so far,
+-- from November on
 pub record Year : Type 0 where
   pub standing : Standing
   pub leap : Bool
@@ -31,7 +35,12 @@ pub record Year : Type 0 where
 
 -- at first nothing is known: the places of all twelve months are empty
 abbrev pub unknown_year : Year
-unknown_year = record { standing = not_opened; leap = false; days = replicate (month_place 12) None; closings = [] }
+unknown_year = record {
+  standing = not_opened;
+  leap = false;
+  days = replicate (month_place 12) None;
+  closings = [];
+}
 
 -- an account is opened once it is running or settled
 abbrev pub is_opened : Standing → Bool
@@ -61,7 +70,8 @@ open_months y = range_with_len (length y.closings) (12 - length y.closings)
 
 -- each closed month has all of its days
 abbrev pub IsComplete : Bool → Places → List ClosingNumbers → Type 0
-IsComplete leap days closings = (month : ℕ) → month < length closings → is_complete leap days month ≡ true
+IsComplete leap days closings =
+    (month : ℕ) → month < length closings → is_complete leap days month ≡ true
 
 -- the interim months run from the first to the last
 abbrev pub is_interim : Opening → ℕ → Bool

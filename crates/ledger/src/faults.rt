@@ -1,26 +1,39 @@
-// Why an account refuses a call, and the number of each refusal.
+//! Why an account refuses a call, and the number of each refusal.
 ghost use Rattle.std.specs.Prelude.{◌≡◌};
 ghost use Rattle.ledger.specs.Faults.{account_number, account_values};
 ghost use Rattle.ledger.specs.declared.faults.AccountFault.TheVariants.{Input, Schedule};
 
-use gas::{InputFault, PriceValues, ScheduleFault};
+use gas::{InputFault, PriceValues, ScheduleFault, message};
+use std::error::Error;
+use std::fmt;
 
 /// Why an account refuses a call or a question: a number of the input, what the account knows, or a
 /// price (`docs/ACCOUNT.md`).
 #[derive(Clone, Copy, Debug, PartialEq, Eq)]
 pub enum AccountFault {
+    /// A number of the input is not lawful, 3 to 9.
     Input(InputFault),
-    Payment,
+    /// 20: the account is not opened.
     NotOpened,
+    /// 21: it is opened already.
     OpenedAlready,
+    /// 22: the day is posted already.
     PostedAlready,
+    /// 23: the day is not posted.
     NotPosted,
+    /// 24: the month is not the earliest that is open.
     NotEarliest,
+    /// 25: the month lacks a day.
     LacksDay,
+    /// 26: the account is settled already.
     SettledAlready,
+    /// 27: an interim month is open.
     InterimOpen,
+    /// 28: a price passes its limit.
     Schedule(ScheduleFault),
+    /// 29: more lines are due than are left.
     NoRoom,
+    /// 30: no line has that number.
     NoLine,
 }
 
@@ -31,7 +44,6 @@ impl AccountFault {
     {
         match self {
             AccountFault::Input(fault) => fault.number(),
-            AccountFault::Payment => 9,
             AccountFault::NotOpened => 20,
             AccountFault::OpenedAlready => 21,
             AccountFault::PostedAlready => 22,
@@ -58,7 +70,6 @@ impl AccountFault {
     }
 }
 
-// Both by hand, so that a clause can name what `?` makes.
 impl From<InputFault> for AccountFault {
     ghost from_gives = { λ e r. r ≡ Input e };
 
@@ -74,3 +85,15 @@ impl From<ScheduleFault> for AccountFault {
         AccountFault::Schedule(fault)
     }
 }
+
+impl fmt::Display for AccountFault {
+    fn fmt<W: fmt::Write>(&self, f: &mut fmt::Formatter<W>) -> fmt::Result {
+        match self {
+            AccountFault::Input(fault) => write!(f, "{fault}"),
+            AccountFault::Schedule(fault) => write!(f, "{fault}"),
+            _ => f.write_str(message(self.number())),
+        }
+    }
+}
+
+impl Error for AccountFault {}

@@ -3,7 +3,8 @@ use Rattle.std.proofs.Common.{◌≡◌, ℕ, List, [], ◌++◌, refl, subst}
 use Rattle.account.specs.declared.faults.Refusal.{Refusal}
 use Rattle.account.specs.Playing.{Played}
 use Rattle.ledger.specs.Calls.{State}
-use Rattle.ledger.specs.Prices.{Tariff}
+use Rattle.gas.specs.Tariffs.{Tariff}
+
 use Rattle.ledger.specs.Runs.{new_state}
 use Rattle.report.specs.Outputs.{PrintsPlayed}
 use Rattle.report.specs.Tariffs.{fixed_tariff}

@@ -3,7 +3,8 @@ use Rattle.std.specs.Prelude.{ℕ}
 use Rattle.gas.specs.declared.items.Item.{Item}
 use Rattle.gas.specs.Facts.{MonthFacts}
 use Rattle.gas.specs.Limits.{Answer}
-use Rattle.ledger.specs.Prices.{Tariff, tariff_by}
+use Rattle.gas.specs.Tariffs.{Tariff}
+
 use Rattle.pipelines.specs.Northern.{northern_day, northern_month}
 use Rattle.riders.specs.Riders.{franchise_charge, franchise_row, interim_charge, interim_row, price_with_rider}
 use Rattle.classes.specs.Classes.{class_price, small_row}

@@ -1,6 +1,7 @@
 // The schedule by which the program prices.
 ghost use Rattle.std.specs.Prelude.{◌≡◌};
-ghost use Rattle.ledger.specs.Prices.{tariff_by};
+ghost use Rattle.gas.specs.Tariffs.{Tariff};
+
 ghost use Rattle.report.specs.Tariffs.{fixed_tariff};
 
 use gas::{PerMille, Schedule, Therms};

@@ -1,4 +1,3 @@
-pub mod Faults
 pub mod Ridden
 pub mod Riders
 pub mod Weather

@@ -1,8 +1,7 @@
-// Riders: surcharges that wrap a schedule of any make, and make another of it.
+//! Riders: surcharges that wrap a schedule of any make, and make another of it.
 #![tactic(auto)]
 
 mod affordability;
-mod faults;
 mod franchise;
 mod interim;
 mod rates;
@@ -13,12 +12,11 @@ mod with_rider;
 mod worked;
 
 pub use affordability::Affordability;
-pub use faults::RiderFault;
 pub use franchise::Franchise;
 pub use interim::Interim;
 pub use rates::weather_rate;
 pub use rider::Rider;
-pub use spans::GasYear;
+pub use spans::{FIRST_YEAR, GasYear, LAST_YEAR};
 pub use weather::Weather;
 pub use with_rider::WithRider;
 pub use worked::weather_months;

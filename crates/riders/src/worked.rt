@@ -1,9 +1,10 @@
-// The weather rates of every month, of which the definition is proved to say what was expected.
+//! The weather rates of every month, of which the definition is proved to say what was expected.
 ghost use Rattle.std.specs.Prelude.{◌≡◌, ◌*◌, length};
 ghost use Rattle.riders.specs.Weather.{months, years};
 ghost use Rattle.riders.specs.Worked.{WeatherAsExpected};
 
-// How many months of the gas years with weather rates have the rate that was expected.
+/// How many months of the gas years with weather rates have the rate that was expected
+/// (`docs/TARIFF.md`).
 pub fn weather_months() -> u8
     ensures count { result ≡ length years * length months }
     ensures expected { WeatherAsExpected }

@@ -31,7 +31,7 @@ fn day_numbers(day: Day) -> DayNumbers
 impl<S: Schedule> Account<S> {
     // Opens the account: whether February has 29 days, the interim increase, and the first and the last interim month.
     pub fn open(&mut self, leap: u8, increase: u16, first: u8, last: u8) -> Result<(), AccountFault>
-        ensures { Called S.unauthorized S.price self.old (opening leap (record { increase = increase; first = first; last = last })) result self.new }
+        ensures { Called S.tariff self.old (opening leap (record { increase = increase; first = first; last = last })) result self.new }
     {
         let Standing::NotOpened = self.standing else {
             return Err(AccountFault::OpenedAlready);
@@ -53,7 +53,7 @@ impl<S: Schedule> Account<S> {
 
     // Stores a day that is absent.
     pub fn post(&mut self, month: u8, day: u8, numbers: DayNumbers) -> Result<(), AccountFault>
-        ensures { Called S.unauthorized S.price self.old (posting month day numbers) result self.new }
+        ensures { Called S.tariff self.old (posting month day numbers) result self.new }
     {
         self.standing.terms()?;
         self.book.post(month, day, numbers)
@@ -61,7 +61,7 @@ impl<S: Schedule> Account<S> {
 
     // Replaces a posted day.
     pub fn correct(&mut self, month: u8, day: u8, numbers: DayNumbers) -> Result<(), AccountFault>
-        ensures { Called S.unauthorized S.price self.old (correction month day numbers) result self.new }
+        ensures { Called S.tariff self.old (correction month day numbers) result self.new }
     {
         let terms = self.standing.terms()?;
         self.book
@@ -70,7 +70,7 @@ impl<S: Schedule> Account<S> {
 
     // Closes the earliest open month at its index and its two transport rates.
     pub fn close(&mut self, month: u8, numbers: ClosingNumbers) -> Result<(), AccountFault>
-        ensures { Called S.unauthorized S.price self.old (closing month numbers) result self.new }
+        ensures { Called S.tariff self.old (closing month numbers) result self.new }
     {
         let terms = self.standing.terms()?;
         self.book.close(&self.schedule, &terms, month, numbers)
@@ -78,7 +78,7 @@ impl<S: Schedule> Account<S> {
 
     // Takes in a payment, in millicents.
     pub fn pay(&mut self, amount: u64) -> Result<(), AccountFault>
-        ensures { Called S.unauthorized S.price self.old (payment amount) result self.new }
+        ensures { Called S.tariff self.old (payment amount) result self.new }
     {
         self.standing.terms()?;
         self.book.pay(amount)
@@ -86,7 +86,7 @@ impl<S: Schedule> Account<S> {
 
     // Settles the account at the increase that came to be final, with interest on a refund.
     pub fn settle(&mut self, final_increase: u16, interest: u16) -> Result<(), AccountFault>
-        ensures { Called S.unauthorized S.price self.old (settling (record { final_increase = final_increase; interest = interest })) result self.new }
+        ensures { Called S.tariff self.old (settling (record { final_increase = final_increase; interest = interest })) result self.new }
     {
         let terms = self.standing.terms()?;
         let settlement = settlement_terms(final_increase, interest)?;
@@ -107,7 +107,7 @@ impl<S: Schedule> Account<S> {
 
     // Takes in a record of a journal. What it is and where the account stands decide together; each call tests the standing for itself too, since it can be made without a journal.
     pub fn enter(&mut self, call: &Record) -> Result<(), AccountFault>
-        ensures { Called S.unauthorized S.price self.old (call_of call.now) result self.new }
+        ensures { Called S.tariff self.old (call_of call.now) result self.new }
     {
         match (self.standing, *call) {
             (

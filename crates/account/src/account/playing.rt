@@ -1,6 +1,7 @@
 // A whole journal played into an account.
 ghost use Rattle.std.specs.Prelude.{◌≡◌, IfOk, OnErr, vec_items};
-ghost use Rattle.ledger.specs.Prices.{tariff_by};
+ghost use Rattle.gas.specs.Tariffs.{Tariff};
+
 ghost use Rattle.ledger.specs.Runs.{RunsAddUp, left_by, refusal_by};
 ghost use Rattle.journal.specs.Reading.{answer_at, offset_after};
 ghost use Rattle.account.specs.Journals.{call_of, entered_at, read_at};
@@ -29,8 +30,8 @@ impl<S: Schedule> Account<S> {
     /// Takes in a record of a journal, and answers nothing or its refusal with the record's byte
     /// offset. With a reader it plays a journal without a heap (`docs/ACCOUNT.md`).
     pub fn enter_located(&mut self, located: &Located) -> Result<(), JournalFault>
-        ensures answers { result ≡ entered_at located.now.offset (refusal_by (tariff_by (S.unauthorized self.old.schedule) (S.price self.old.schedule)) (call_of located.now.«record») self.old.state) }
-        ensures leaves { self.new.state ≡ left_by (tariff_by (S.unauthorized self.old.schedule) (S.price self.old.schedule)) (call_of located.now.«record») self.old.state }
+        ensures answers { result ≡ entered_at located.now.offset (refusal_by (S.tariff self.old.schedule) (call_of located.now.«record») self.old.state) }
+        ensures leaves { self.new.state ≡ left_by (S.tariff self.old.schedule) (call_of located.now.«record») self.old.state }
         ensures schedule { self.new.schedule ≡ self.old.schedule }
         ensures unchanged { OnErr result (self.new ≡ self.old) }
     {
@@ -46,7 +47,7 @@ impl<S: Schedule> Account<S> {
     /// The law of all runs stands here: whole, and of this account by every history that it goes on
     /// from (`docs/HISTORY.md`).
     pub fn play(&mut self, alloc: Global, journal: &[u8]) -> Result<Vec<Refusal>, AllocError>
-        ensures played { IfOk result (λ refusals. Played (tariff_by (S.unauthorized self.old.schedule) (S.price self.old.schedule)) journal.now self.old.state self.new.state (vec_items refusals)) }
+        ensures played { IfOk result (λ refusals. Played (S.tariff self.old.schedule) journal.now self.old.state self.new.state (vec_items refusals)) }
         ensures schedule { self.new.schedule ≡ self.old.schedule }
         ensures unchanged { OnErr result (self.new ≡ self.old) }
         ensures law { RunsAddUp }

@@ -45,7 +45,7 @@ impl<S: Schedule> Account<S> {
     pub fn open_therms(&self) -> SignedTherms
         ensures is { result.count ≡ open_therms self.now.state.year }
         ensures law { RunsAddUp }
-        ensures adds_up { AddsUpByItsHistories S.unauthorized S.price self.now result.count }
+        ensures adds_up { AddsUpByItsHistories S.tariff self.now result.count }
     {
         self.book.open_therms()
     }

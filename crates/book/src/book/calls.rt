@@ -2,7 +2,8 @@
 ghost use Rattle.std.specs.Prelude.{◌≡◌, true, OnErr};
 ghost use Rattle.gas.specs.Inputs.{answer_by};
 ghost use Rattle.ledger.specs.Calls.{closing, correction, outcome, payment, posting, settling};
-ghost use Rattle.ledger.specs.Prices.{Tariff, tariff_by};
+ghost use Rattle.gas.specs.Tariffs.{Tariff};
+
 ghost use Rattle.ledger.specs.Year.{Standing, is_opened, running, settled};
 ghost use Rattle.book.specs.Terms.{opening_numbers, settlement_numbers, standing_of};
 
@@ -38,7 +39,7 @@ impl Book {
         day: u8,
         numbers: DayNumbers,
     ) -> Result<(), AccountFault>
-        ensures is { answer_by (λ _. state_of (standing_of terms.now) self.new) result ≡ outcome (tariff_by (S.unauthorized schedule.now) (S.price schedule.now)) (correction month day numbers) (state_of (standing_of terms.now) self.old) }
+        ensures is { answer_by (λ _. state_of (standing_of terms.now) self.new) result ≡ outcome (S.tariff schedule.now) (correction month day numbers) (state_of (standing_of terms.now) self.old) }
         ensures unchanged { OnErr result (self.new ≡ self.old) }
     {
         let dated = DatedDay::new(self.year.leap, month, day, numbers)?;
@@ -60,7 +61,7 @@ impl Book {
         month: u8,
         numbers: ClosingNumbers,
     ) -> Result<(), AccountFault>
-        ensures is { answer_by (λ _. state_of (standing_of terms.now) self.new) result ≡ outcome (tariff_by (S.unauthorized schedule.now) (S.price schedule.now)) (closing month numbers) (state_of (standing_of terms.now) self.old) }
+        ensures is { answer_by (λ _. state_of (standing_of terms.now) self.new) result ≡ outcome (S.tariff schedule.now) (closing month numbers) (state_of (standing_of terms.now) self.old) }
         ensures unchanged { OnErr result (self.new ≡ self.old) }
     {
         let month = Month::try_from(month)?;
@@ -99,7 +100,7 @@ impl Book {
         opening: &OpeningTerms,
         settlement: &SettlementTerms,
     ) -> Result<(), AccountFault>
-        ensures is { answer_by (λ _. state_of (settled (opening_numbers opening.now) (settlement_numbers settlement.now)) self.new) result ≡ outcome (tariff_by (S.unauthorized schedule.now) (S.price schedule.now)) (settling (settlement_numbers settlement.now)) (state_of (running (opening_numbers opening.now)) self.old) }
+        ensures is { answer_by (λ _. state_of (settled (opening_numbers opening.now) (settlement_numbers settlement.now)) self.new) result ≡ outcome (S.tariff schedule.now) (settling (settlement_numbers settlement.now)) (state_of (running (opening_numbers opening.now)) self.old) }
         ensures unchanged { OnErr result (self.new ≡ self.old) }
     {
         if self.year.closings.count() <= opening.last.number as usize {
