@@ -34,7 +34,7 @@ module _ (y : MeterYear) (lines : List Line) (b : Contents) (same : record { yea
         refused s (closing month n) (state_of t b) (fault.Input f) (rw (opened, first.0, test.0, test.1) refl)
 
     module _ (c : ClosingNumbers) (of_rates : Ok c ≡ checked_closing n) where
-      lawful_input : first_failure (tests (closing month n) (year_by t b.year)) ≡ first_failure ((eqb m (length b.year.closings), fault.NotEarliest) ∷ (is_complete b.year.leap b.year.days m, fault.LacksDay) ∷ [])
+      lawful_input : first_failure (tests (closing month n) (state_of t b)) ≡ first_failure ((eqb m (length b.year.closings), fault.NotEarliest) ∷ (is_complete b.year.leap b.year.days m, fault.LacksDay) ∷ [])
       lawful_input =
           let first = taken (leb month 11) input.Month m month of_month in
           let second = taken (is_lawful_closing n) input.Quantity c n of_rates in
@@ -51,7 +51,7 @@ module _ (y : MeterYear) (lines : List Line) (b : Contents) (same : record { yea
       pub closed : (put : Contents) → m ≡ length y.closings → is_complete y.leap y.days m ≡ true → put ≡ with_closings b (b.year.closings ++ c ∷ []) →
           with_lines (year_by t put.year) put.lines (by_account (lines_due_in s (year_by t put.year) put.lines)) ≡ outcome s (closing month n) (state_of t b)
       closed put next complete is_put =
-          let passes : first_failure (tests (closing month n) (year_by t b.year)) ≡ None = lawful_input ∙ rw (sym same, complete, eq-eqb _ _ next) refl in
+          let passes : first_failure (tests (closing month n) (state_of t b)) ≡ None = lawful_input ∙ rw (sym same, complete, eq-eqb _ _ next) refl in
           rw is_put (sym (passed s (closing month n) (state_of t b) passes ∙ rw (sym (taken (is_lawful_closing n) input.Quantity c n of_rates).1) refl))
 
 -- a book with its last month open again is the one before

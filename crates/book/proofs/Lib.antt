@@ -1,3 +1,4 @@
+pub mod Appending
 pub mod Balances
 pub mod ClosedMonths
 pub mod Collecting
@@ -6,7 +7,6 @@ pub mod Interim
 pub mod Nearness
 pub mod OpenMonths
 pub mod Outcomes
-pub mod Paying
 pub mod Payments
 pub mod PeakDays
 pub mod Pricing

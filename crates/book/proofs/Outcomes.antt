@@ -7,9 +7,10 @@ use Rattle.gas.specs.declared.day.DayRecord.{DayRecord}
 use Rattle.ledger.specs.declared.faults.AccountFault.{AccountFault}
 use Rattle.ledger.specs.declared.faults.AccountFault.TheVariants as fault
 use Rattle.ledger.specs.declared.lines.Line.{Line}
+use Rattle.ledger.specs.declared.lines.TheConstants.{MOST_LINES}
 use Rattle.gas.specs.Inputs.{first_failure, answer_by, value_if}
 use Rattle.gas.specs.Made.{day_of}
-use Rattle.ledger.specs.Calls.{Call, State, Tests, by_account, correction, day_input, day_tests, year_after, most_lines, outcome, posting, tests, with_lines, lines_of_call}
+use Rattle.ledger.specs.Calls.{Call, State, Tests, by_account, correction, day_input, day_tests, year_after, outcome, posting, tests, with_lines, lines_of_call}
 use Rattle.ledger.specs.Days.{Places, place_of}
 use Rattle.ledger.specs.Due.{lines_due_in}
 use Rattle.gas.specs.Tariffs.{Tariff}
@@ -23,12 +24,12 @@ use Rattle.book.specs.Terms.{standing_by}
 use Rattle.book.specs.Years.{year_by}
 
 -- a call of which a test fails is refused as that test says
-pub refused : (s : Tariff) (c : Call) (a : State) (f : AccountFault) → first_failure (tests c a.year) ≡ Some f → Err f ≡ outcome s c a
+pub refused : (s : Tariff) (c : Call) (a : State) (f : AccountFault) → first_failure (tests c a) ≡ Some f → Err f ≡ outcome s c a
 unfolding outcome
 refused s c a f e = rw e refl
 
 -- one of which none fails writes its lines
-pub passed : (s : Tariff) (c : Call) (a : State) → first_failure (tests c a.year) ≡ None → outcome s c a ≡ with_lines (year_after c a.year) a.lines (lines_of_call s c (year_after c a.year) a.lines)
+pub passed : (s : Tariff) (c : Call) (a : State) → first_failure (tests c a) ≡ None → outcome s c a ≡ with_lines (year_after c a.year) a.lines (lines_of_call s c (year_after c a.year) a.lines)
 unfolding outcome
 passed s c a e = rw e refl
 
@@ -55,12 +56,12 @@ handed_on (Ok u) x o f is one h = absurd cc
 handed_on (Err e) x o f is one h = rw one h
 
 -- the tests of a day in an opened account
-module _ (y : Year) (month day : ℕ) (n : DayNumbers) (state : Bool × AccountFault) (opened : is_opened y.standing ≡ true) where
-  day_refused : (f : AccountFault) → first_failure (day_input y.leap month day n) ≡ Some f → first_failure (day_tests y month day n state) ≡ Some f
-  day_refused f e = rw opened (fails_first (day_input y.leap month day n) (state ∷ []) f e)
+module _ (a : State) (month day : ℕ) (n : DayNumbers) (stands : Bool × AccountFault) (opened : is_opened a.year.standing ≡ true) where
+  day_refused : (f : AccountFault) → first_failure (day_input a.year.leap month day n) ≡ Some f → first_failure (day_tests a month day n stands) ≡ Some f
+  day_refused f e = rw opened (fails_first (day_input a.year.leap month day n) (stands ∷ []) f e)
 
-  day_passed : first_failure (day_input y.leap month day n) ≡ None → first_failure (day_tests y month day n state) ≡ first_failure (state ∷ [])
-  day_passed e = rw opened (fails_later (day_input y.leap month day n) (state ∷ []) e)
+  day_passed : first_failure (day_input a.year.leap month day n) ≡ None → first_failure (day_tests a month day n stands) ≡ first_failure (stands ∷ [])
+  day_passed e = rw opened (fails_later (day_input a.year.leap month day n) (stands ∷ []) e)
 
 -- of a test on a number, the refusal says that it failed, and the number that it passed
 pub untaken : {A F : Type 0} (ok : Bool) (f g : F) (a : A) → Err f ≡ value_if ok g a → (ok ≡ false) × (f ≡ g)
@@ -72,26 +73,26 @@ taken true g m a e = (refl, cc)
 taken false g m a e = absurd cc
 
 -- lines for which there is room are written
-pub fits : (y : Year) (lines more : List Line) → length lines + length more ≤ most_lines → with_lines y lines (Ok more) ≡ Ok (record { year = y; lines = lines ++ more })
-fits y lines more room = let test : leb (length lines + length more) most_lines ≡ true = grind (arith, nat_tests) in rw test refl
+pub fits : (y : Year) (lines more : List Line) → length lines + length more ≤ MOST_LINES → with_lines y lines (Ok more) ≡ Ok (record { year = y; lines = lines ++ more })
+fits y lines more room = let test : leb (length lines + length more) MOST_LINES ≡ true = grind (arith, nat_tests) in rw test refl
 
 -- a posting, in any account that was opened
 module _ (y : MeterYear) (lines : List Line) (b : Contents) (same : record { year = y; lines = lines } ≡ b) (month day : ℕ) (n : DayNumbers) (s : Tariff) (t : Standing) (opened : is_opened t ≡ true) where
   pub posting_refused : (f : AccountFault) → Some f ≡ first_failure (day_input y.leap month day n) → Err f ≡ outcome s (posting month day n) (state_of t b)
-  posting_refused f e = rw (sym same) (refused s (posting month day n) (record { year = year_by t y; lines = lines }) f (day_refused (year_by t y) month day n _ opened f (sym e)))
+  posting_refused f e = rw (sym same) (refused s (posting month day n) (record { year = year_by t y; lines = lines }) f (day_refused (record { year = year_by t y; lines = lines }) month day n _ opened f (sym e)))
 
   module _ (place : ℕ) (stands : Option DayRecord) (e : None ≡ first_failure (day_input y.leap month day n)) (at : place ≡ place_of month day) (is : stands ≡ get_or y.days place None) where
-    tested : first_failure (tests (posting month day n) (year_by t y)) ≡ first_failure ((not (is_some stands), fault.PostedAlready) ∷ [])
-    tested = day_passed (year_by t y) month day n _ opened (sym e) ∙ rw (is, at) refl
+    tested : first_failure (tests (posting month day n) (record { year = year_by t y; lines = lines })) ≡ first_failure ((not (is_some stands), fault.PostedAlready) ∷ [])
+    tested = day_passed (record { year = year_by t y; lines = lines }) month day n _ opened (sym e) ∙ rw (is, at) refl
 
     pub posted_already : true ≡ is_some stands → Err fault.PostedAlready ≡ outcome s (posting month day n) (state_of t b)
     posted_already posted = rw (sym same) (refused s (posting month day n) (record { year = year_by t y; lines = lines }) fault.PostedAlready (tested ∙ rw (sym posted) refl))
 
-    pub posted : (d : DayRecord) (after : Contents) → false ≡ is_some stands → Ok d ≡ day_of n → length lines ≤ most_lines → after ≡ with_days b (set b.year.days place (Some d)) → Ok (state_of t after) ≡ outcome s (posting month day n) (state_of t b)
+    pub posted : (d : DayRecord) (after : Contents) → false ≡ is_some stands → Ok d ≡ day_of n → length lines ≤ MOST_LINES → after ≡ with_days b (set b.year.days place (Some d)) → Ok (state_of t after) ≡ outcome s (posting month day n) (state_of t b)
     posted d after absent made room left =
         let a : State = record { year = year_by t y; lines = lines } in
-        let passes : first_failure (tests (posting month day n) a.year) ≡ None = tested ∙ rw (sym absent) refl in
-        let all : length lines + 0 ≤ most_lines = omega arith in
+        let passes : first_failure (tests (posting month day n) a) ≡ None = tested ∙ rw (sym absent) refl in
+        let all : length lines + 0 ≤ MOST_LINES = omega arith in
         rw (left, sym same) (sym (passed s (posting month day n) a passes ∙ fits (year_after (posting month day n) a.year) lines [] all ∙ rw (sym made, at, append-nil lines) refl))
 
 -- an account that has terms was opened
@@ -117,12 +118,12 @@ put_back (x ∷ xs) (suc n) d before e = ap (λ (ds : Places). x ∷ ds) (put_ba
 -- a correction, in an account that was opened
 module _ (y : MeterYear) (lines : List Line) (b : Contents) (same : record { year = y; lines = lines } ≡ b) (month day : ℕ) (n : DayNumbers) (s : Tariff) (t : Standing) (opened : is_opened t ≡ true) where
   pub correction_refused : (f : AccountFault) → Some f ≡ first_failure (day_input y.leap month day n) → Err f ≡ outcome s (correction month day n) (state_of t b)
-  correction_refused f e = rw (sym same) (refused s (correction month day n) (record { year = year_by t y; lines = lines }) f (day_refused (year_by t y) month day n _ opened f (sym e)))
+  correction_refused f e = rw (sym same) (refused s (correction month day n) (record { year = year_by t y; lines = lines }) f (day_refused (record { year = year_by t y; lines = lines }) month day n _ opened f (sym e)))
 
   module _ (place : ℕ) (stands : Option DayRecord) (e : None ≡ first_failure (day_input y.leap month day n)) (at : place ≡ place_of month day) (is : stands ≡ get_or b.year.days place None) where
-    corrected : first_failure (tests (correction month day n) (year_by t b.year)) ≡ first_failure ((is_some stands, fault.NotPosted) ∷ [])
+    corrected : first_failure (tests (correction month day n) (state_of t b)) ≡ first_failure ((is_some stands, fault.NotPosted) ∷ [])
     corrected =
-        let first : first_failure (tests (correction month day n) (year_by t y)) ≡ first_failure ((is_some (get_or y.days (place_of month day) None), fault.NotPosted) ∷ []) = day_passed (year_by t y) month day n _ opened (sym e) in
+        let first : first_failure (tests (correction month day n) (record { year = year_by t y; lines = lines })) ≡ first_failure ((is_some (get_or y.days (place_of month day) None), fault.NotPosted) ∷ []) = day_passed (record { year = year_by t y; lines = lines }) month day n _ opened (sym e) in
         rw (is, at, sym same) first
 
     pub not_posted : None ≡ stands → Err fault.NotPosted ≡ outcome s (correction month day n) (state_of t b)
@@ -131,7 +132,7 @@ module _ (y : MeterYear) (lines : List Line) (b : Contents) (same : record { yea
     pub corrects : (d before : DayRecord) (put : Contents) → Some before ≡ stands → Ok d ≡ day_of n → put ≡ with_days b (days_exchanged b.year.days place d (Some before)) →
         with_lines (year_by t put.year) put.lines (by_account (lines_due_in s (year_by t put.year) put.lines)) ≡ outcome s (correction month day n) (state_of t b)
     corrects d before put posted made is_put =
-        let passes : first_failure (tests (correction month day n) (year_by t b.year)) ≡ None = corrected ∙ rw (sym posted) refl in
+        let passes : first_failure (tests (correction month day n) (state_of t b)) ≡ None = corrected ∙ rw (sym posted) refl in
         rw is_put (sym (passed s (correction month day n) (state_of t b) passes ∙ rw (sym made, at) refl))
 
 -- a book with a record put back is the one before

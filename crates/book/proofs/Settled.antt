@@ -30,5 +30,5 @@ module _ (y : MeterYear) (lines : List Line) (b : Contents) (same : record { yea
       let one : leb t.final_increase MOST_PER_MILLE ≡ true = grind (arith, nat_tests) in
       let two : leb t.interest MOST_PER_MILLE ≡ true = grind (arith, nat_tests) in
       let test : ltb o.last (length y.closings) ≡ true = grind (arith, nat_tests) in
-      let passes : first_failure (tests (settling t) (year_by (running o) b.year)) ≡ None = rw (one, two, sym same, test) refl in
+      let passes : first_failure (tests (settling t) (state_of (running o) b)) ≡ None = rw (one, two, sym same, test) refl in
       sym (passed s (settling t) (state_of (running o) b) passes)

@@ -3,7 +3,8 @@ use Rattle.std.specs.Prelude.{◌≤◌, Bool, List, [], length}
 use Rattle.std.specs.List.{push}
 use Rattle.gas.specs.declared.month.ClosingNumbers.{ClosingNumbers}
 use Rattle.ledger.specs.declared.lines.Line.{Line}
-use Rattle.ledger.specs.Calls.{State, most_lines}
+use Rattle.ledger.specs.declared.lines.TheConstants.{MOST_LINES}
+use Rattle.ledger.specs.Calls.{State}
 use Rattle.ledger.specs.Days.{Places}
 use Rattle.ledger.specs.Year.{IsComplete, Standing, unknown_year}
 use Rattle.book.specs.declared.table.LineTable.{LineTable}
@@ -34,16 +35,18 @@ with_line b line = record b { lines = push b.lines line }
 
 -- a book whose year begins
 abbrev pub begun_book : Contents → Bool → Contents
-begun_book b leap = record b { year = record { leap = leap; days = unknown_year.days; closings = [] } }
+begun_book b leap =
+    record b { year = record { leap = leap; days = unknown_year.days; closings = [] } }
 
 -- few: the closed months, which run from November on, are at most twelve
 -- complete: all their days are posted; each is lawful, as every day record is
 -- kept: the lines are fit, and their sums stand in the table
 -- room: there are at most as many lines as there is room for
--- near: under each heading that is brought to targets the lines add up to no more than a target can be, so that no sum runs over
+-- near: under each heading that is trued up the lines add up to no more than a target can be, so
+-- that no sum runs over
 pub record IsSound (y : MeterYear) (t : LineTable) : Type 0 where
   pub few : length y.closings ≤ 12
   pub complete : IsComplete y.leap y.days y.closings
   pub kept : IsKept t
-  pub room : length t.lines.items ≤ most_lines
+  pub room : length t.lines.items ≤ MOST_LINES
   pub near : IsNear t.lines.items

@@ -4,4 +4,5 @@ use Rattle.book.specs.declared.year.MeterYear.{MeterYear}
 
 -- the year as known, by the standing of an account and its tables
 abbrev pub year_by : Standing → MeterYear → Year
-year_by standing y = record { standing = standing; leap = y.leap; days = y.days; closings = y.closings }
+year_by standing y =
+    record { standing = standing; leap = y.leap; days = y.days; closings = y.closings }

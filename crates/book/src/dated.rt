@@ -1,4 +1,4 @@
-// The day of a posting or a correction, with the place where it belongs.
+//! The day of a posting or a correction, with the place where it belongs.
 ghost use Rattle.std.specs.Prelude.{◌≡◌, IfOk, Ok};
 ghost use Rattle.std.specs.Int.{is_in_range};
 ghost use Rattle.std.specs.Result.{result_err};
@@ -12,7 +12,8 @@ use crate::places::Place;
 use gas::{DayNumbers, DayRecord, InputFault, Month};
 use ledger::AccountFault;
 
-#[derive(Clone, Copy)]
+/// A lawful day with its place in the year (`docs/LEDGER.md`).
+#[derive(Clone, Copy, Debug, PartialEq, Eq)]
 pub struct DatedDay {
     pub place: Place,
     pub record: DayRecord,
@@ -26,7 +27,11 @@ fn has_day(month: Month, leap: bool, day: u8) -> bool
 }
 
 impl DatedDay {
-    // A lawful day at its place in the year, or the first refusal: of the month, the day, the kind, the mark, the quantities.
+    /// A lawful day at its place in the year. Refused are, in this order, with 3 a month above 11,
+    /// with
+    /// 4 a day that the month does not have, with 5 a kind above 3, with 6 a mark above 1, and with
+    /// 7
+    /// quantities outside their limits (`docs/ACCOUNT.md`).
     #[tactic(auto, using(gas::proofs::Made::made_of))]
     pub fn new(
         leap: bool,

@@ -1,5 +1,7 @@
-// The table of a year's days, and the posted days of a month.
-ghost use Rattle.std.specs.Prelude.{◌≡◌, ◌<◌, ◌≤◌, length, replicate, Some, None, slice_index_or, slice_set};
+//! The table of a year's days, and the posted days of a month.
+ghost use Rattle.std.specs.Prelude.{
+    ◌≡◌, ◌<◌, ◌≤◌, length, replicate, Some, None, slice_index_or, slice_set
+};
 ghost use Rattle.ledger.specs.Days.{month_places, posted_in};
 ghost use Rattle.book.specs.Days.{days_exchanged};
 
@@ -10,8 +12,8 @@ use std::marker::Model;
 use std::mem;
 
 /// What stands at each place of the year, a day's record or none, in memory of a fixed size. A
-/// contract sees it as the list of these (`docs/HISTORY.md`).
-#[derive(Drop)]
+/// contract sees it as the list of these (`docs/LEDGER.md`).
+#[derive(Debug, Drop)]
 pub struct DayTable {
     places: [Option<DayRecord>; 372],
 }
@@ -76,6 +78,19 @@ impl DayTable {
     {
         &self.places[places_of(month, leap)]
     }
+}
+
+/// How many of some places have a record.
+pub fn posted_count(places: &[Option<DayRecord>]) -> usize
+    ensures { result ≡ length (posted_in places.now) }
+{
+    let mut count = 0;
+    for place in places {
+        if place.is_some() {
+            count += 1;
+        }
+    }
+    count
 }
 
 /// Those of at most 31 places that have a record, in order.

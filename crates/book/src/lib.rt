@@ -1,17 +1,17 @@
-// The book of an account: the tables of its days, closings and lines, and what is worked out from them.
+//! The book of an account: the tables of its days, closings and lines, and what is worked out from
+//! them.
 #![tactic(auto)]
 
 mod book;
 mod closings;
 mod dated;
 mod days;
-mod lines_due;
+mod due;
 mod first;
 mod payment;
 mod peak;
 mod places;
 mod questions;
-mod run;
 mod settlement;
 mod table;
 mod targets;

@@ -1,27 +1,31 @@
-// The line of a payment.
+//! The line of a payment.
 ghost use Rattle.std.specs.Prelude.{◌≡◌, neg_ℤ, pos};
 ghost use Rattle.std.specs.Int.{is_in_range};
+ghost use Rattle.gas.specs.declared.faults.InputFault.TheVariants as faults;
 ghost use Rattle.gas.specs.Inputs.{value_if};
-ghost use Rattle.ledger.specs.declared.faults.AccountFault.TheVariants as faults;
 ghost use Rattle.ledger.specs.declared.lines.Heading.TheVariants as headings;
-ghost use Rattle.ledger.specs.Calls.{most_paid};
+ghost use Rattle.ledger.specs.declared.lines.TheConstants.{MOST_PAID};
 ghost use Rattle.ledger.specs.Headings.{line_of};
 
-use crate::settlement::taken_off;
-use gas::Millicents;
-use ledger::{AccountFault, Heading, Line};
+use gas::{InputFault, Millicents};
+use ledger::{Heading, Line, MOST_PAID, SignedTherms};
 
-const MOST_PAID: u64 = 10_000_000_000_000;
-
-// Takes off what is paid; refused are a payment of nothing and one above 10^13.
-pub fn payment_line(amount: u64) -> Result<Line, AccountFault>
-    ensures { result ≡ value_if (is_in_range 1 most_paid amount) faults.Payment (line_of headings.Payment (pos 0) (neg_ℤ (pos amount))) }
+/// The line that takes off what is paid, in millicents; refused with 9 are a payment of nothing and
+/// one above 10^13 (`docs/ACCOUNT.md`).
+pub fn payment_line(amount: u64) -> Result<Line, InputFault>
+    ensures { result ≡
+        value_if (is_in_range 1 MOST_PAID amount) faults.Payment
+        (line_of headings.Payment (pos 0) (neg_ℤ (pos amount))) }
 {
     if !(1..=MOST_PAID).contains(&amount) {
-        return Err(AccountFault::Payment);
+        return Err(InputFault::Payment);
     }
     let paid = Millicents {
         amount: amount as i64,
     };
-    Ok(taken_off(Heading::Payment, paid))
+    Ok(Line {
+        heading: Heading::Payment,
+        therms: SignedTherms::default(),
+        money: Millicents::default() - paid,
+    })
 }

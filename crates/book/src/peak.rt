@@ -1,10 +1,11 @@
-// The peak day of a month.
+//! The peak day of a month.
 ghost use Rattle.std.specs.Prelude.{◌≤◌, length};
 ghost use Rattle.ledger.specs.Peaks.{IsPeak};
 
 use gas::{DayRecord, Therms};
 
-// The day of the greatest reading among the places of a month, counted from 1, if a day is posted there.
+/// The day of the greatest reading among the places of a month, counted from 1, if a day is posted
+/// there (`docs/ACCOUNT.md`).
 #[tactic(auto, using(crate::proofs::PeakDays::one_place_more))]
 pub fn peak_day(places: &[Option<DayRecord>]) -> Option<u8>
     requires { length places.now ≤ 31 }

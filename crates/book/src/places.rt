@@ -1,4 +1,4 @@
-// The places of a gas year's days: 31 for each month, in the order of dates.
+//! The places of a gas year's days: 31 for each month, in the order of dates.
 ghost use Rattle.std.specs.Prelude.{◌≡◌, ◌+◌, ◌<◌, ◌≤◌};
 ghost use Rattle.gas.specs.Calendar.{month_length};
 ghost use Rattle.ledger.specs.Days.{month_place, place_of};
@@ -8,7 +8,7 @@ use std::ops::Range;
 
 const PLACES_A_MONTH: usize = 31;
 
-// A place of the year.
+/// A place of the year, 31 for each month (`docs/LEDGER.md`).
 #[derive(Clone, Copy, Debug, PartialEq, Eq)]
 pub struct Place {
     pub index: usize,
@@ -16,7 +16,7 @@ pub struct Place {
 }
 
 impl Place {
-    // The place of a day of a month; days are counted from 1.
+    /// The place of a day of a month; days are counted from 1.
     pub fn of(month: Month, day: u8) -> Place
         requires first { 1 ≤ day }
         requires last { day ≤ 31 }
@@ -28,7 +28,7 @@ impl Place {
     }
 }
 
-// The places of a month's days. The leap mark, which is the year's, comes beside the month, which is a call's.
+/// The places of a month's days, in a leap year or another (`docs/LEDGER.md`).
 pub fn places_of(month: Month, leap: bool) -> Range<usize>
     ensures start { result.start ≡ month_place month.number }
     ensures end { result.end ≡ month_place month.number + month_length leap month.number }

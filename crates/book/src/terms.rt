@@ -1,4 +1,4 @@
-// What the opening and the settlement of an account say of its interim rate.
+//! What the opening and the settlement of an account say of its interim rate.
 ghost use Rattle.std.specs.Prelude.{◌≡◌};
 ghost use Rattle.ledger.specs.Year.{is_interim};
 ghost use Rattle.ledger.specs.Prices.{increase_in_force};
@@ -6,39 +6,41 @@ ghost use Rattle.book.specs.Terms.{opening_numbers};
 
 use gas::{Month, PerMille};
 
-// The interim increase, and the first and the last month in which it is in force.
-#[derive(Clone, Copy)]
+/// The interim increase, and the first and the last month in which it is in force
+/// (`docs/ACCOUNT.md`).
+#[derive(Clone, Copy, Debug, PartialEq, Eq)]
 pub struct OpeningTerms {
     pub increase: PerMille,
     pub first: Month,
     pub last: Month,
 }
 
-// The increase that came to be final, and the interest on a refund.
-#[derive(Clone, Copy)]
+/// The increase that came to be final, and the interest on a refund (`docs/ACCOUNT.md`).
+#[derive(Clone, Copy, Debug, PartialEq, Eq)]
 pub struct SettlementTerms {
     pub final_increase: PerMille,
     pub interest: PerMille,
 }
 
-// What an account was opened with, and what it was settled with once it is.
-#[derive(Clone, Copy)]
+/// What an account was opened with, and what it was settled with once it is (`docs/ACCOUNT.md`).
+#[derive(Clone, Copy, Debug, PartialEq, Eq)]
 pub struct Terms {
     pub opening: OpeningTerms,
     pub settlement: Option<SettlementTerms>,
 }
 
 impl OpeningTerms {
-    // Whether a month is an interim month.
+    /// Whether a month is an interim month.
     pub fn is_interim(&self, month: u8) -> bool
         ensures { result ≡ is_interim (opening_numbers self.now) month }
     {
         (self.first.number..=self.last.number).contains(&month)
     }
 
-    // An increase for the interim months is none in the others.
+    /// An increase for the interim months, which is none in the others.
     pub fn in_force(&self, increase: PerMille, month: Month) -> PerMille
-        ensures { result.share ≡ increase_in_force (opening_numbers self.now) increase.share month.number }
+        ensures { result.share ≡
+            increase_in_force (opening_numbers self.now) increase.share month.number }
     {
         if self.is_interim(month.number) {
             increase

@@ -1,4 +1,4 @@
-// Receipts less readings, of some days and of all open months.
+//! Receipts less readings, of some days and of all open months.
 ghost use Rattle.std.specs.Prelude.{◌≡◌, ◌≤◌, length};
 ghost use Rattle.ledger.specs.Days.{month_days, net_therms};
 ghost use Rattle.ledger.specs.Prices.{open_therms};
@@ -28,14 +28,15 @@ impl MeterYear {
 
     // Receipts less readings of a month's posted days.
     fn month_therms(&self, month: Month) -> SignedTherms
-        ensures { result.count ≡ net_therms (month_days self.now.leap self.now.days month.number) }
+        ensures { result.count ≡
+            net_therms (month_days self.now.leap self.now.days month.number) }
     {
         let days = posted(self.days.month(month, self.leap));
         net_therms(days.as_slice())
     }
 
     /// Receipts less readings of the days of open months, in therms: the same by any standing
-    /// (`docs/HISTORY.md`).
+    /// (`docs/LEDGER.md`).
     pub fn open_therms(&self) -> SignedTherms
         requires { length self.now.closings ≤ 12 }
         ensures { result.count ≡ open_therms (year_by not_opened self.now) }

@@ -1,4 +1,5 @@
-// The calls of an account that reach its book: what each answers and leaves, with the account's standing beside it, is the outcome of that call.
+//! The calls of an account that reach its book: what each answers and leaves, with the account's
+//! standing beside it, is the outcome of that call.
 ghost use Rattle.std.specs.Prelude.{◌≡◌, true, OnErr};
 ghost use Rattle.gas.specs.Inputs.{answer_by};
 ghost use Rattle.ledger.specs.Calls.{closing, correction, outcome, payment, posting, settling};
@@ -17,9 +18,16 @@ use ledger::AccountFault;
 impl Book {
     ghost use Rattle.book.specs.Books.{state_of};
 
-    // Stores a day that is absent. It is so on any tariff and by any standing of an account that was opened.
+    /// Stores a day that is absent. Refused are, in this order, with 3 a month above 11, with 4 a
+    /// day
+    /// that the month does not have, with 5 to 7 numbers of a day that are not lawful, and with 22
+    /// a
+    /// day that is posted. It is so on any tariff and by any standing of an account that was opened
+    /// (`docs/ACCOUNT.md`).
     pub fn post(&mut self, month: u8, day: u8, numbers: DayNumbers) -> Result<(), AccountFault>
-        ensures is { (s : Tariff) (t : Standing) → is_opened t ≡ true → answer_by (λ _. state_of t self.new) result ≡ outcome s (posting month day numbers) (state_of t self.old) }
+        ensures is { (s : Tariff) (t : Standing) → is_opened t ≡ true →
+            answer_by (λ _. state_of t self.new) result ≡
+            outcome s (posting month day numbers) (state_of t self.old) }
         ensures unchanged { OnErr result (self.new ≡ self.old) }
     {
         let dated = DatedDay::new(self.year.leap, month, day, numbers)?;
@@ -30,7 +38,11 @@ impl Book {
         Ok(())
     }
 
-    // Puts a day in the place of the one that was posted, and brings the lines to the year as then known.
+    /// Puts a day in the place of the one that was posted, and trues the lines up to the year as
+    /// then
+    /// known. Refused as a posting is, but with 23 where the day is not posted, and then with 28
+    /// and
+    /// 29 (`docs/ACCOUNT.md`).
     pub fn correct<S: Schedule>(
         &mut self,
         schedule: &S,
@@ -39,7 +51,9 @@ impl Book {
         day: u8,
         numbers: DayNumbers,
     ) -> Result<(), AccountFault>
-        ensures is { answer_by (λ _. state_of (standing_of terms.now) self.new) result ≡ outcome (S.tariff schedule.now) (correction month day numbers) (state_of (standing_of terms.now) self.old) }
+        ensures is { answer_by (λ _. state_of (standing_of terms.now) self.new) result ≡
+            outcome (S.tariff schedule.now) (correction month day numbers)
+            (state_of (standing_of terms.now) self.old) }
         ensures unchanged { OnErr result (self.new ≡ self.old) }
     {
         let dated = DatedDay::new(self.year.leap, month, day, numbers)?;
@@ -53,7 +67,11 @@ impl Book {
         trued_up
     }
 
-    // Closes the earliest open month, of which all days are posted, and brings the lines to the year as then known.
+    /// Closes the earliest open month, of which all days are posted, and trues the lines up to the
+    /// year as then known. Refused are, in this order, with 3 a month above 11, with 7 a rate past
+    /// its
+    /// limit, with 24 another month, with 25 one that lacks a day, and then with 28 and 29
+    /// (`docs/ACCOUNT.md`).
     pub fn close<S: Schedule>(
         &mut self,
         schedule: &S,
@@ -61,7 +79,9 @@ impl Book {
         month: u8,
         numbers: ClosingNumbers,
     ) -> Result<(), AccountFault>
-        ensures is { answer_by (λ _. state_of (standing_of terms.now) self.new) result ≡ outcome (S.tariff schedule.now) (closing month numbers) (state_of (standing_of terms.now) self.old) }
+        ensures is { answer_by (λ _. state_of (standing_of terms.now) self.new) result ≡
+            outcome (S.tariff schedule.now) (closing month numbers)
+            (state_of (standing_of terms.now) self.old) }
         ensures unchanged { OnErr result (self.new ≡ self.old) }
     {
         let month = Month::try_from(month)?;
@@ -80,9 +100,15 @@ impl Book {
         trued_up
     }
 
-    // Writes a line that takes off what is paid. It is so on any tariff and by any standing of an account that was opened.
+    /// Writes a line that takes off what is paid, in millicents. Refused are with 9 a payment of 0
+    /// or
+    /// above 10^13, and with 29 one for which there is no line left. It is so on any tariff and by
+    /// any
+    /// standing of an account that was opened (`docs/ACCOUNT.md`).
     pub fn pay(&mut self, amount: u64) -> Result<(), AccountFault>
-        ensures is { (s : Tariff) (t : Standing) → is_opened t ≡ true → answer_by (λ _. state_of t self.new) result ≡ outcome s (payment amount) (state_of t self.old) }
+        ensures is { (s : Tariff) (t : Standing) → is_opened t ≡ true →
+            answer_by (λ _. state_of t self.new) result ≡
+            outcome s (payment amount) (state_of t self.old) }
         ensures unchanged { OnErr result (self.new ≡ self.old) }
     {
         let line = payment_line(amount)?;
@@ -93,14 +119,20 @@ impl Book {
         Ok(())
     }
 
-    // Brings the lines to where they are to stand in an account that is settled, where the interim months are closed.
+    /// Trues the lines up to where they are to stand in an account that is settled; refused with 27
+    /// where an interim month is open, and then with 28 and 29 (`docs/ACCOUNT.md`).
     pub fn settle<S: Schedule>(
         &mut self,
         schedule: &S,
         opening: &OpeningTerms,
         settlement: &SettlementTerms,
     ) -> Result<(), AccountFault>
-        ensures is { answer_by (λ _. state_of (settled (opening_numbers opening.now) (settlement_numbers settlement.now)) self.new) result ≡ outcome (S.tariff schedule.now) (settling (settlement_numbers settlement.now)) (state_of (running (opening_numbers opening.now)) self.old) }
+        ensures is { answer_by (λ _.
+            state_of
+            (settled (opening_numbers opening.now) (settlement_numbers settlement.now)) self.new)
+            result ≡
+            outcome (S.tariff schedule.now) (settling (settlement_numbers settlement.now))
+            (state_of (running (opening_numbers opening.now)) self.old) }
         ensures unchanged { OnErr result (self.new ≡ self.old) }
     {
         if self.year.closings.count() <= opening.last.number as usize {
