@@ -22,7 +22,7 @@ five_at_least : (r : Record) → 5 ≤ record_length r
 five_at_least (Open leap increase first last) = omega arith
 five_at_least (Post day) = omega arith
 five_at_least (Correct day) = omega arith
-five_at_least (Close month index interruptible firm) = omega arith
+five_at_least (Close month numbers) = omega arith
 five_at_least (Pay amount) = omega arith
 five_at_least (Settle final interest) = omega arith
 

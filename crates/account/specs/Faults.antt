@@ -6,7 +6,8 @@ use Rattle.journal.specs.Faults.{read_number}
 use Rattle.account.specs.declared.faults.JournalFault.{JournalFault}
 use Rattle.account.specs.declared.faults.JournalFault.TheVariants.{Unread, Refused}
 
--- the number, the offset of the record's first byte, and the values that come with an account's refusal
+-- the number, the offset of the record's first byte, and the values that come with an account's
+-- refusal
 abbrev pub journal_values : JournalFault → ℕ × ℕ × Option PriceValues
 journal_values (Unread offset fault) = (read_number fault, offset, None)
 journal_values (Refused offset fault) =

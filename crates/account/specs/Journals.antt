@@ -1,14 +1,14 @@
 -- What the records of a journal make of an account.
 use Rattle.std.specs.Prelude.{ℕ, ◌+◌, List, [], ◌∷◌, ◌++◌, Some, None, Ok, Err, Option, Result}
 use Rattle.std.specs.Result.{result_map_both}
-use Rattle.gas.specs.declared.day.DayNumbers.{DayNumbers}
 use Rattle.ledger.specs.declared.faults.AccountFault.{AccountFault}
-use Rattle.ledger.specs.Calls.{Call, State, closing, correction, opening, payment, posting, settling}
+use Rattle.ledger.specs.Calls.{
+  Call, State, closing, correction, opening, payment, posting, settling
+}
 use Rattle.gas.specs.Tariffs.{Tariff}
 
 use Rattle.ledger.specs.Runs.{Entry, History, left_by, refusal_by}
 use Rattle.journal.specs.declared.faults.ReadFault.{ReadFault}
-use Rattle.journal.specs.declared.kinds.Day.{Day}
 use Rattle.journal.specs.declared.kinds.Located.{Located}
 use Rattle.journal.specs.declared.kinds.Record.{Record}
 use Rattle.journal.specs.declared.kinds.Record.TheVariants.{Open, Post, Correct, Close, Pay, Settle}
@@ -17,36 +17,27 @@ use Rattle.account.specs.declared.faults.JournalFault.{JournalFault}
 use Rattle.account.specs.declared.faults.JournalFault.TheVariants.{Unread, Refused}
 use Rattle.account.specs.declared.faults.Refusal.{Refusal}
 
--- what a day was, without its date
-abbrev pub numbers_in : Day → DayNumbers
-numbers_in d = record {
-  kind = d.kind;
-  curtailed = d.curtailed;
-  nomination = d.nomination;
-  receipts = d.receipts;
-  reading = d.reading;
-  after_notice = d.after_notice;
-  supply_cost = d.supply_cost;
-  variance_rate = d.variance_rate;
-}
-
 -- the call that a record is
 abbrev pub call_of : Record → Call
-call_of (Open leap increase first last) = opening leap (record { increase = increase; first = first; last = last })
-call_of (Post day) = posting day.month day.day (numbers_in day)
-call_of (Correct day) = correction day.month day.day (numbers_in day)
-call_of (Close month index interruptible firm) = closing month (record { index = index; interruptible = interruptible; firm = firm })
+call_of (Open leap increase first last) =
+    opening leap (record { increase = increase; first = first; last = last })
+call_of (Post day) = posting day.month day.day day.numbers
+call_of (Correct day) = correction day.month day.day day.numbers
+call_of (Close month numbers) = closing month numbers
 call_of (Pay amount) = payment amount
-call_of (Settle final interest) = settling (record { final_increase = final; interest = interest })
+call_of (Settle final interest) =
+    settling (record { final_increase = final; interest = interest })
 
 -- the entry of a record in the history: its call, and whether it was refused
 abbrev pub entry_of : Tariff → State → Record → Entry
 entry_of s a r = record { call = call_of r; refusal = refusal_by s (call_of r) a }
 
--- the history of an account after records that were played one after another, each on what the one before had left
+-- the history of an account after records that were played one after another, each on what the one
+-- before had left
 abbrev pub history_after : Tariff → History → State → List Located → History
 history_after s h a [] = h
-history_after s h a (p ∷ ps) = history_after s (entry_of s a p.«record» ∷ h) (left_by s (call_of p.«record») a) ps
+history_after s h a (p ∷ ps) =
+    history_after s (entry_of s a p.«record» ∷ h) (left_by s (call_of p.«record») a) ps
 
 -- the account after records that were played one after another
 abbrev pub account_after : Tariff → State → List Located → State
@@ -72,8 +63,11 @@ abbrev pub unread_at : ℕ → ℕ → Option ReadFault → List Refusal
 unread_at k offset None = []
 unread_at k offset (Some f) = record { number = k; fault = Unread offset f } ∷ []
 
--- the refusals, in order, of records from number k on; offset is where the reader stands, for the refusal at which reading stops
+-- the refusals, in order, of records from number k on; offset is where the reader stands, for the
+-- refusal at which reading stops
 abbrev pub refusals_of : Tariff → ℕ → ℕ → State → List Located → Option ReadFault → List Refusal
 refusals_of s k offset a [] end = unread_at k offset end
 refusals_of s k offset a (p ∷ ps) end =
-    refused_at k p.offset (refusal_by s (call_of p.«record») a) ++ refusals_of s (k + 1) (offset + record_length p.«record») (left_by s (call_of p.«record») a) ps end
+    let c : Call = call_of p.«record» in
+    refused_at k p.offset (refusal_by s c a) ++
+    refusals_of s (k + 1) (offset + record_length p.«record») (left_by s c a) ps end

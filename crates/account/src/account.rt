@@ -1,4 +1,4 @@
-// The account of one gas year of one meter, over any schedule.
+//! The account of one gas year of one meter, over any schedule.
 ghost use Rattle.std.specs.Prelude.{◌≡◌, length};
 ghost use Rattle.ledger.specs.Runs.{new_state};
 
@@ -11,8 +11,9 @@ use book::Book;
 use gas::Schedule;
 use std::marker::Model;
 
-// A schedule, where the account stands, and the book of its days and lines.
-#[derive(Drop)]
+/// The account of one gas year of one meter: a schedule, where the account stands, and the book of
+/// its days and lines (`docs/ACCOUNT.md`).
+#[derive(Debug, Drop)]
 pub struct Account<S> {
     schedule: S,
     standing: Standing,
@@ -26,13 +27,15 @@ impl<S> Model for Account<S> {
 
     ghost Value = { Holding S };
 
-    ghost view = { λ a. record { schedule = a.schedule; state = state_of (standing_now a.standing) a.book } };
+    ghost view = { λ a.
+        record { schedule = a.schedule; state = state_of (standing_now a.standing) a.book } };
 }
 
 impl<S: Schedule> Account<S> {
     ghost use Rattle.account.specs.Holdings.{Holding};
 
-    // A new account, which is not opened, knows nothing and has written nothing.
+    /// A new account, which is not opened, knows nothing and has written nothing
+    /// (`docs/ACCOUNT.md`).
     pub fn new(schedule: S) -> Account<S>
         ensures { result ≡ record { schedule = schedule; state = new_state } }
     {

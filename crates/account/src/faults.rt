@@ -1,7 +1,9 @@
-// Why a record of a journal is refused, and the number of each refusal.
+//! Why a record of a journal is refused, and the number of each refusal.
 use gas::PriceValues;
-use ledger::AccountFault;
 use journal::ReadFault;
+use ledger::AccountFault;
+use std::error::Error;
+use std::fmt;
 
 /// Why a record of a journal is refused: it could not be read, or the account refused it, whole as
 /// it is told here. Either comes with the byte offset of the record (`docs/ACCOUNT.md`).
@@ -41,7 +43,8 @@ impl JournalFault {
         }
     }
 
-    /// The number of the refusal and the byte offset of the record, with the values of the account's
+    /// The number of the refusal and the byte offset of the record, with the values of the
+    /// account's
     /// refusal if it has any (`docs/ACCOUNT.md`).
     pub fn values(self) -> (u8, usize, Option<PriceValues>)
         ensures { result ≡ journal_values self }
@@ -77,3 +80,14 @@ impl From<(usize, AccountFault)> for JournalFault {
         JournalFault::Refused { offset, fault }
     }
 }
+
+impl fmt::Display for JournalFault {
+    fn fmt<W: fmt::Write>(&self, f: &mut fmt::Formatter<W>) -> fmt::Result {
+        match self {
+            JournalFault::Unread { offset, fault } => write!(f, "at byte {offset}: {fault}"),
+            JournalFault::Refused { offset, fault } => write!(f, "at byte {offset}: {fault}"),
+        }
+    }
+}
+
+impl Error for JournalFault {}

@@ -1,8 +1,8 @@
 //! What the opening and the settlement of an account say of its interim rate.
 ghost use Rattle.std.specs.Prelude.{◌≡◌};
-ghost use Rattle.ledger.specs.Year.{is_interim};
+ghost use Rattle.ledger.specs.Year.{is_interim, running, settled};
 ghost use Rattle.ledger.specs.Prices.{increase_in_force};
-ghost use Rattle.book.specs.Terms.{opening_numbers};
+ghost use Rattle.book.specs.Terms.{opening_numbers, settlement_numbers, standing_of};
 
 use gas::{Month, PerMille};
 
@@ -46,6 +46,56 @@ impl OpeningTerms {
             increase
         } else {
             PerMille::default()
+        }
+    }
+}
+
+impl Terms {
+    /// What an account was opened with, before a settlement.
+    pub fn running(increase: PerMille, first: Month, last: Month) -> Terms
+        ensures { standing_of result ≡
+            running (opening_numbers (record {
+              increase = increase;
+              first = first;
+              last = last;
+            })) }
+    {
+        Terms {
+            opening: OpeningTerms {
+                increase,
+                first,
+                last,
+            },
+            settlement: None,
+        }
+    }
+
+    /// What an account was opened and settled with.
+    pub fn settled(
+        increase: PerMille,
+        first: Month,
+        last: Month,
+        final_increase: PerMille,
+        interest: PerMille,
+    ) -> Terms
+        ensures { standing_of result ≡
+            settled
+            (opening_numbers (record { increase = increase; first = first; last = last }))
+            (settlement_numbers (record {
+              final_increase = final_increase;
+              interest = interest;
+            })) }
+    {
+        Terms {
+            opening: OpeningTerms {
+                increase,
+                first,
+                last,
+            },
+            settlement: Some(SettlementTerms {
+                final_increase,
+                interest,
+            }),
         }
     }
 }

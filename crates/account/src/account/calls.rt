@@ -1,152 +1,224 @@
-// The six calls of an account, and the call that a journal's record is.
+//! The six calls of an account, each of which is a record of a journal.
 ghost use Rattle.std.specs.Prelude.{◌≡◌};
 ghost use Rattle.ledger.specs.Calls.{closing, correction, opening, payment, posting, settling};
 ghost use Rattle.account.specs.Calls.{Called};
-ghost use Rattle.account.specs.Journals.{call_of, numbers_in};
+ghost use Rattle.account.specs.Journals.{call_of};
 
 use crate::account::Account;
 use crate::inputs::{opening_terms, settlement_terms};
 use crate::standing::Standing;
-use book::OpeningTerms;
+use book::{OpeningTerms, Terms};
 use gas::{ClosingNumbers, DayNumbers, Schedule};
-use ledger::AccountFault;
 use journal::{Day, Record};
-
-// What a journal's day was, without its date.
-fn day_numbers(day: Day) -> DayNumbers
-    ensures { result ≡ numbers_in day }
-{
-    DayNumbers {
-        kind: day.kind,
-        curtailed: day.curtailed,
-        nomination: day.nomination,
-        receipts: day.receipts,
-        reading: day.reading,
-        after_notice: day.after_notice,
-        supply_cost: day.supply_cost,
-        variance_rate: day.variance_rate,
-    }
-}
+use ledger::AccountFault;
 
 impl<S: Schedule> Account<S> {
-    // Opens the account: whether February has 29 days, the interim increase, and the first and the last interim month.
+    /// Opens the account: whether February has 29 days, the interim increase in thousandths, and
+    /// the
+    /// first and the last interim month. Refused are, in this order, with 21 an account that is
+    /// opened, with 3 the interim months, with 6 the leap mark, and with 8 the increase
+    /// (`docs/ACCOUNT.md`).
     pub fn open(&mut self, leap: u8, increase: u16, first: u8, last: u8) -> Result<(), AccountFault>
-        ensures { Called S.tariff self.old (opening leap (record { increase = increase; first = first; last = last })) result self.new }
+        ensures {
+            Called S.tariff self.old
+            (opening leap (record { increase = increase; first = first; last = last }))
+            result self.new }
     {
-        let Standing::NotOpened = self.standing else {
-            return Err(AccountFault::OpenedAlready);
-        };
-        let (leap, terms) = opening_terms(leap, increase, first, last)?;
-        let OpeningTerms {
+        self.enter(&Record::Open {
+            leap,
             increase,
             first,
             last,
-        } = terms;
-        self.book.begin(leap);
-        self.standing = Standing::Running {
-            increase,
-            first,
-            last,
-        };
-        Ok(())
+        })
     }
 
-    // Stores a day that is absent.
+    /// Stores a day that is absent. Refused are, in this order, with 20 an account that is not
+    /// opened,
+    /// with 3 the month, with 4 the day, with 5 to 7 the day's numbers, and with 22 a day that is
+    /// posted (`docs/ACCOUNT.md`).
     pub fn post(&mut self, month: u8, day: u8, numbers: DayNumbers) -> Result<(), AccountFault>
         ensures { Called S.tariff self.old (posting month day numbers) result self.new }
     {
-        self.standing.terms()?;
-        self.book.post(month, day, numbers)
+        self.enter(&Record::Post {
+            day: Day {
+                month,
+                day,
+                numbers,
+            },
+        })
     }
 
-    // Replaces a posted day.
+    /// Replaces a posted day. Refused as a posting is, but last with 23 a day that is not posted,
+    /// and
+    /// then with 28 and 29 (`docs/ACCOUNT.md`).
     pub fn correct(&mut self, month: u8, day: u8, numbers: DayNumbers) -> Result<(), AccountFault>
         ensures { Called S.tariff self.old (correction month day numbers) result self.new }
     {
-        let terms = self.standing.terms()?;
-        self.book
-            .correct(&self.schedule, &terms, month, day, numbers)
+        self.enter(&Record::Correct {
+            day: Day {
+                month,
+                day,
+                numbers,
+            },
+        })
     }
 
-    // Closes the earliest open month at its index and its two transport rates.
+    /// Closes the earliest open month at its index and its two transport rates. Refused are, in
+    /// this
+    /// order, with 20 an account that is not opened, with 3 the month, with 7 the rates, with 24
+    /// another month, with 25 one that lacks a day, and then with 28 and 29 (`docs/ACCOUNT.md`).
     pub fn close(&mut self, month: u8, numbers: ClosingNumbers) -> Result<(), AccountFault>
         ensures { Called S.tariff self.old (closing month numbers) result self.new }
     {
-        let terms = self.standing.terms()?;
-        self.book.close(&self.schedule, &terms, month, numbers)
+        self.enter(&Record::Close { month, numbers })
     }
 
-    // Takes in a payment, in millicents.
+    /// Takes in a payment, in millicents. Refused are, in this order, with 20 an account that is
+    /// not
+    /// opened, with 9 the payment, and with 29 one for which no line is left (`docs/ACCOUNT.md`).
     pub fn pay(&mut self, amount: u64) -> Result<(), AccountFault>
         ensures { Called S.tariff self.old (payment amount) result self.new }
     {
-        self.standing.terms()?;
-        self.book.pay(amount)
+        self.enter(&Record::Pay { amount })
     }
 
-    // Settles the account at the increase that came to be final, with interest on a refund.
+    /// Settles the account at the increase that came to be final, with interest on a refund, each
+    /// in
+    /// thousandths. Refused are, in this order, with 20 an account that is not opened, with 8 the
+    /// numbers, with 26 one that is settled, with 27 an open interim month, and then with 28 and 29
+    /// (`docs/ACCOUNT.md`).
     pub fn settle(&mut self, final_increase: u16, interest: u16) -> Result<(), AccountFault>
-        ensures { Called S.tariff self.old (settling (record { final_increase = final_increase; interest = interest })) result self.new }
+        ensures {
+            Called S.tariff self.old
+            (settling (record { final_increase = final_increase; interest = interest }))
+            result self.new }
     {
-        let terms = self.standing.terms()?;
-        let settlement = settlement_terms(final_increase, interest)?;
-        if terms.settlement.is_some() {
-            return Err(AccountFault::SettledAlready);
-        }
-        let opening = terms.opening;
-        self.book.settle(&self.schedule, &opening, &settlement)?;
-        self.standing = Standing::Settled {
-            increase: opening.increase,
-            first: opening.first,
-            last: opening.last,
-            final_increase: settlement.final_increase,
-            interest: settlement.interest,
-        };
-        Ok(())
+        self.enter(&Record::Settle {
+            final_increase,
+            interest,
+        })
     }
 
-    // Takes in a record of a journal. What it is and where the account stands decide together; each call tests the standing for itself too, since it can be made without a journal.
+    /// Takes in a record of a journal: where the account stands and what the record is decide
+    /// together. It answers and leaves what the call does that the record is (`docs/ACCOUNT.md`).
     pub fn enter(&mut self, call: &Record) -> Result<(), AccountFault>
         ensures { Called S.tariff self.old (call_of call.now) result self.new }
     {
-        match (self.standing, *call) {
+        match (*call, self.standing) {
             (
-                Standing::NotOpened,
                 Record::Open {
                     leap,
                     increase,
                     first,
                     last,
                 },
-            ) => self.open(leap, increase, first, last),
-            (Standing::NotOpened, _) => Err(AccountFault::NotOpened),
-            (_, Record::Open { .. }) => Err(AccountFault::OpenedAlready),
-            (_, Record::Post { day }) => self.post(day.month, day.day, day_numbers(day)),
-            (_, Record::Correct { day }) => self.correct(day.month, day.day, day_numbers(day)),
+                Standing::NotOpened,
+            ) => {
+                let (leap, terms) = opening_terms(leap, increase, first, last)?;
+                self.book.begin(leap);
+                self.standing = Standing::Running {
+                    increase: terms.increase,
+                    first: terms.first,
+                    last: terms.last,
+                };
+                Ok(())
+            }
+            (Record::Open { .. }, Standing::Running { .. }) => Err(AccountFault::OpenedAlready),
+            (Record::Open { .. }, Standing::Settled { .. }) => Err(AccountFault::OpenedAlready),
+            (Record::Post { .. }, Standing::NotOpened) => Err(AccountFault::NotOpened),
+            (Record::Post { day }, _) => self.book.post(day.month, day.day, day.numbers),
+            (Record::Correct { .. }, Standing::NotOpened) => Err(AccountFault::NotOpened),
             (
-                _,
-                Record::Close {
-                    month,
-                    index,
-                    interruptible,
-                    firm,
+                Record::Correct { day },
+                Standing::Running {
+                    increase,
+                    first,
+                    last,
                 },
-            ) => self.close(
-                month,
-                ClosingNumbers {
-                    index,
-                    interruptible,
-                    firm,
-                },
-            ),
-            (_, Record::Pay { amount }) => self.pay(amount),
+            ) => {
+                let terms = Terms::running(increase, first, last);
+                self.book
+                    .correct(&self.schedule, &terms, day.month, day.day, day.numbers)
+            }
             (
-                _,
+                Record::Correct { day },
+                Standing::Settled {
+                    increase,
+                    first,
+                    last,
+                    final_increase,
+                    interest,
+                },
+            ) => {
+                let terms = Terms::settled(increase, first, last, final_increase, interest);
+                self.book
+                    .correct(&self.schedule, &terms, day.month, day.day, day.numbers)
+            }
+            (Record::Close { .. }, Standing::NotOpened) => Err(AccountFault::NotOpened),
+            (
+                Record::Close { month, numbers },
+                Standing::Running {
+                    increase,
+                    first,
+                    last,
+                },
+            ) => {
+                let terms = Terms::running(increase, first, last);
+                self.book.close(&self.schedule, &terms, month, numbers)
+            }
+            (
+                Record::Close { month, numbers },
+                Standing::Settled {
+                    increase,
+                    first,
+                    last,
+                    final_increase,
+                    interest,
+                },
+            ) => {
+                let terms = Terms::settled(increase, first, last, final_increase, interest);
+                self.book.close(&self.schedule, &terms, month, numbers)
+            }
+            (Record::Pay { .. }, Standing::NotOpened) => Err(AccountFault::NotOpened),
+            (Record::Pay { amount }, _) => self.book.pay(amount),
+            (Record::Settle { .. }, Standing::NotOpened) => Err(AccountFault::NotOpened),
+            (
                 Record::Settle {
                     final_increase,
                     interest,
                 },
-            ) => self.settle(final_increase, interest),
+                Standing::Running {
+                    increase,
+                    first,
+                    last,
+                },
+            ) => {
+                let settlement = settlement_terms(final_increase, interest)?;
+                let opening = OpeningTerms {
+                    increase,
+                    first,
+                    last,
+                };
+                self.book.settle(&self.schedule, &opening, &settlement)?;
+                self.standing = Standing::Settled {
+                    increase,
+                    first,
+                    last,
+                    final_increase: settlement.final_increase,
+                    interest: settlement.interest,
+                };
+                Ok(())
+            }
+            (
+                Record::Settle {
+                    final_increase,
+                    interest,
+                },
+                Standing::Settled { .. },
+            ) => {
+                settlement_terms(final_increase, interest)?;
+                Err(AccountFault::SettledAlready)
+            }
         }
     }
 }

@@ -1,4 +1,4 @@
-// A whole journal played into an account.
+//! A whole journal played into an account.
 ghost use Rattle.std.specs.Prelude.{◌≡◌, IfOk, OnErr, vec_items};
 ghost use Rattle.gas.specs.Tariffs.{Tariff};
 
@@ -18,7 +18,8 @@ const LEAST_LENGTH: usize = 5;
 
 // The next record of a journal, or none at its end; a refusal comes with the offset.
 fn next_record(reader: &mut Reader) -> Result<Option<Located>, JournalFault>
-    ensures answers { result ≡ read_at reader.old.at (answer_at reader.old.bytes.now reader.old.at) }
+    ensures answers { result ≡
+        read_at reader.old.at (answer_at reader.old.bytes.now reader.old.at) }
     ensures moves { reader.new.at ≡ offset_after reader.old.bytes.now reader.old.at }
     ensures same { reader.new.bytes ≡ reader.old.bytes }
 {
@@ -28,10 +29,14 @@ fn next_record(reader: &mut Reader) -> Result<Option<Located>, JournalFault>
 
 impl<S: Schedule> Account<S> {
     /// Takes in a record of a journal, and answers nothing or its refusal with the record's byte
-    /// offset. With a reader it plays a journal without a heap (`docs/ACCOUNT.md`).
+    /// offset. With a reader it plays a journal without memory of its own (`docs/ACCOUNT.md`).
     pub fn enter_located(&mut self, located: &Located) -> Result<(), JournalFault>
-        ensures answers { result ≡ entered_at located.now.offset (refusal_by (S.tariff self.old.schedule) (call_of located.now.«record») self.old.state) }
-        ensures leaves { self.new.state ≡ left_by (S.tariff self.old.schedule) (call_of located.now.«record») self.old.state }
+        ensures answers { result ≡
+            entered_at located.now.offset
+            (refusal_by (S.tariff self.old.schedule) (call_of located.now.«record»)
+            self.old.state) }
+        ensures leaves { self.new.state ≡
+            left_by (S.tariff self.old.schedule) (call_of located.now.«record») self.old.state }
         ensures schedule { self.new.schedule ≡ self.old.schedule }
         ensures unchanged { OnErr result (self.new ≡ self.old) }
     {
@@ -45,14 +50,18 @@ impl<S: Schedule> Account<S> {
     /// there is no memory for the refusals, and then plays nothing (`docs/ACCOUNT.md`).
     ///
     /// The law of all runs stands here: whole, and of this account by every history that it goes on
-    /// from (`docs/HISTORY.md`).
+    /// from (`docs/LEDGER.md`).
     pub fn play(&mut self, alloc: Global, journal: &[u8]) -> Result<Vec<Refusal>, AllocError>
-        ensures played { IfOk result (λ refusals. Played (S.tariff self.old.schedule) journal.now self.old.state self.new.state (vec_items refusals)) }
+        ensures played { IfOk result (λ refusals.
+            Played (S.tariff self.old.schedule) journal.now self.old.state self.new.state
+            (vec_items refusals)) }
         ensures schedule { self.new.schedule ≡ self.old.schedule }
         ensures unchanged { OnErr result (self.new ≡ self.old) }
         ensures law { RunsAddUp }
     {
-        // Room for the refusal of every record and of one that cannot be read is made before the first is played, so that no later step wants memory.
+        // room for the refusal of every record and of one that cannot be read, so that no later
+        // step
+        // wants memory
         let mut refusals = Vec::with_capacity(alloc, journal.len() / LEAST_LENGTH + 1)?;
         let mut reader = Reader::new(journal);
         for number in 1.. {

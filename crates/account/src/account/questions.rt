@@ -1,6 +1,6 @@
-// What an account answers to questions, of which none changes it.
+//! What an account answers to questions, of which none changes it.
 ghost use Rattle.std.specs.Prelude.{◌≡◌, ◌≤◌, length};
-ghost use Rattle.ledger.specs.Calls.{most_lines};
+ghost use Rattle.ledger.specs.declared.lines.TheConstants.{MOST_LINES};
 ghost use Rattle.ledger.specs.Prices.{open_therms};
 ghost use Rattle.ledger.specs.Questions.{IsPeakAnswer, line_numbered, sum_of_all};
 ghost use Rattle.ledger.specs.Runs.{RunsAddUp};
@@ -17,9 +17,11 @@ impl<S: Schedule> Account<S> {
     /// (`docs/ACCOUNT.md`).
     pub fn line_count(&self) -> usize
         ensures is { result ≡ length self.now.state.lines }
-        ensures room { length self.now.state.lines ≤ most_lines }
+        ensures room { length self.now.state.lines ≤ MOST_LINES }
         ensures few { length self.now.state.year.closings ≤ 12 }
-        ensures complete { IsComplete self.now.state.year.leap self.now.state.year.days self.now.state.year.closings }
+        ensures complete {
+            IsComplete self.now.state.year.leap self.now.state.year.days
+            self.now.state.year.closings }
     {
         self.book.line_count()
     }
@@ -41,7 +43,7 @@ impl<S: Schedule> Account<S> {
     /// Receipts less readings of the posted days of open months, in therms (`docs/ACCOUNT.md`).
     ///
     /// The law of all runs stands here: whole, and of this account by every history that has made
-    /// it (`docs/HISTORY.md`).
+    /// it (`docs/LEDGER.md`).
     pub fn open_therms(&self) -> SignedTherms
         ensures is { result.count ≡ open_therms self.now.state.year }
         ensures law { RunsAddUp }
@@ -53,9 +55,11 @@ impl<S: Schedule> Account<S> {
     /// A day of a month, counted from 1, that no other of its days exceeds in its reading, if a day
     /// of it is posted; refused with 20 before the opening, then with 3 (`docs/ACCOUNT.md`).
     pub fn peak_day(&self, month: u8) -> Result<Option<u8>, AccountFault>
-        ensures { IsPeakAnswer self.now.state.year month result }
+        ensures { IsPeakAnswer self.now.state month result }
     {
-        self.standing.terms()?;
+        if !self.standing.is_opened() {
+            return Err(AccountFault::NotOpened);
+        }
         let month = Month::try_from(month)?;
         Ok(self.book.peak_day(month))
     }
