@@ -316,10 +316,10 @@ mod edges {
 #[cfg(test)]
 mod terms {
     use gas::{InputFault, Millicents, Month, PerMille, Rate};
-    use pipelines::{PipelineFault, Tolerance, ToleranceNumbers};
-    use riders::{GasYear, RiderFault, weather_rate};
+    use pipelines::{Tolerance, ToleranceNumbers};
+    use riders::{GasYear, weather_rate};
     use std::test::Fail;
-    use classes::{ClassFault, FirmInterruptible};
+    use classes::FirmInterruptible;
 
     const TOLERANCE: ToleranceNumbers = ToleranceNumbers {
         day: 100,
@@ -333,7 +333,7 @@ mod terms {
     fn refusal(numbers: ToleranceNumbers) -> Option<u8> {
         Tolerance::try_from(numbers)
             .err()
-            .map(PipelineFault::number)
+            .map(InputFault::number)
     }
 
     #[test]
@@ -378,7 +378,7 @@ mod terms {
     fn base_refusal(base: u32) -> Option<u8> {
         FirmInterruptible::try_from(base)
             .err()
-            .map(ClassFault::number)
+            .map(InputFault::number)
     }
 
     #[test]
@@ -412,7 +412,7 @@ mod terms {
     // The weather rate of a month, or the number of the refusal of its gas year.
     fn weather(start: u16, month: u8) -> Result<Result<u32, u8>, Fail> {
         let month = Month::try_from(month).map_err(|_| "the month is refused")?;
-        let year = GasYear::try_from(start).map_err(RiderFault::number);
+        let year = GasYear::try_from(start).map_err(InputFault::number);
         Ok(year.map(|year| weather_rate(year, month).price))
     }
 
