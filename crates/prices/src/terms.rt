@@ -49,7 +49,7 @@ pub const WEATHER: Weather = Weather {
 // The class on which most riders are shown: small dual fuel on Northern.
 #[tactic(auto, unfolding(crate::specs::Cases::small))]
 pub fn small() -> Class<SmallDualFuel, Northern>
-    ensures { ⟦<Class<SmallDualFuel, Northern> as Schedule>⟧.price result ≡ small }
+    ensures { (⟦<Class<SmallDualFuel, Northern> as Schedule>⟧.tariff result).price ≡ small }
 {
     Class {
         terms: SmallDualFuel {
@@ -61,7 +61,7 @@ pub fn small() -> Class<SmallDualFuel, Northern>
 
 #[tactic(auto, unfolding(crate::specs::Cases::large))]
 pub fn large() -> Class<LargeDualFuel, Northern>
-    ensures { ⟦<Class<LargeDualFuel, Northern> as Schedule>⟧.price result ≡ large }
+    ensures { (⟦<Class<LargeDualFuel, Northern> as Schedule>⟧.tariff result).price ≡ large }
 {
     Class {
         terms: LargeDualFuel,
