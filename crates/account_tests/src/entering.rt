@@ -1,7 +1,7 @@
 // A record of a journal does what its call does.
 use crate::fixtures::{SMALL, answers, call, closing, correction, even, posting, written};
 use account::Account;
-use gas::Schedule;
+use gas::{DayNumbers, Schedule};
 use journal::{Day, Record};
 use riders::{Interim, Rider};
 use std::process::Abort;
@@ -41,7 +41,10 @@ fn a_year_of_calls(rt: HostRuntime) {
         last: 0,
     };
     let corrected = correction(Day {
-        reading: 90,
+        numbers: DayNumbers {
+            reading: 90,
+            ..even(0, 30, 100).numbers
+        },
         ..even(0, 30, 100)
     });
     let settling = Record::Settle {

@@ -3,16 +3,19 @@ use crate::fixtures::{
     OPEN, SMALL, Written, accepts, closing, correction, ends_with, even, posting,
 };
 use account::Account;
-use gas::Schedule;
+use gas::{DayNumbers, Schedule};
 use journal::Day;
 use std::process::Abort;
 
 // A curtailed day on which 10 therms were nominated, received and used, some of them after the notice.
 fn curtailed(month: u8, day: u8, after_notice: u32, supply_cost: u32) -> Day {
     Day {
-        curtailed: 1,
-        after_notice,
-        supply_cost,
+        numbers: DayNumbers {
+            curtailed: 1,
+            after_notice,
+            supply_cost,
+            ..even(month, day, 10).numbers
+        },
         ..even(month, day, 10)
     }
 }
@@ -22,7 +25,10 @@ fn november(day: u8) -> Day {
     match day {
         1 => curtailed(0, 1, 0, 1_000),
         2 => Day {
-            after_notice: 10,
+            numbers: DayNumbers {
+                after_notice: 10,
+                ..even(0, 2, 10).numbers
+            },
             ..even(0, 2, 10)
         },
         _ => even(0, day, 10),

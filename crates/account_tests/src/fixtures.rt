@@ -1,13 +1,13 @@
 // What the tests share: schedules, days, and calls that are made and looked at.
 use account::Account;
+use classes::{Class, SmallDualFuel};
 use gas::{ClosingNumbers, DayNumbers, Rate, Schedule, Therms};
-use ledger::AccountFault;
 use journal::{Day, Record};
+use ledger::AccountFault;
 use pipelines::Northern;
 use riders::Affordability;
 use std::ops::Range;
 use std::process::Abort;
-use classes::{Class, SmallDualFuel};
 
 pub type Small = Class<SmallDualFuel, Northern>;
 
@@ -31,10 +31,8 @@ pub const OPEN: Record = Record::Open {
     last: 0,
 };
 
-// The first of November, on which nothing flowed.
-pub const QUIET: Day = Day {
-    month: 0,
-    day: 1,
+// A normal day on which nothing flowed.
+pub const IDLE: DayNumbers = DayNumbers {
     kind: 0,
     curtailed: 0,
     nomination: 0,
@@ -45,15 +43,24 @@ pub const QUIET: Day = Day {
     variance_rate: 0,
 };
 
+// It is the first of November.
+pub const QUIET: Day = Day {
+    month: 0,
+    day: 1,
+    numbers: IDLE,
+};
+
 // A day that is in balance: so many therms were nominated, received and used.
 pub fn even(month: u8, day: u8, therms: u32) -> Day {
     Day {
         month,
         day,
-        nomination: therms,
-        receipts: therms,
-        reading: therms,
-        ..QUIET
+        numbers: DayNumbers {
+            nomination: therms,
+            receipts: therms,
+            reading: therms,
+            ..IDLE
+        },
     }
 }
 
@@ -69,22 +76,11 @@ pub fn correction(day: Day) -> Record {
 pub fn closing(month: u8) -> Record {
     Record::Close {
         month,
-        index: 30_000,
-        interruptible: 1_000,
-        firm: 1_000,
-    }
-}
-
-fn numbers(day: Day) -> DayNumbers {
-    DayNumbers {
-        kind: day.kind,
-        curtailed: day.curtailed,
-        nomination: day.nomination,
-        receipts: day.receipts,
-        reading: day.reading,
-        after_notice: day.after_notice,
-        supply_cost: day.supply_cost,
-        variance_rate: day.variance_rate,
+        numbers: ClosingNumbers {
+            index: 30_000,
+            interruptible: 1_000,
+            firm: 1_000,
+        },
     }
 }
 
@@ -97,21 +93,9 @@ pub fn call<S: Schedule>(account: &mut Account<S>, record: Record) -> Result<(),
             first,
             last,
         } => account.open(leap, increase, first, last),
-        Record::Post { day } => account.post(day.month, day.day, numbers(day)),
-        Record::Correct { day } => account.correct(day.month, day.day, numbers(day)),
-        Record::Close {
-            month,
-            index,
-            interruptible,
-            firm,
-        } => {
-            let rates = ClosingNumbers {
-                index,
-                interruptible,
-                firm,
-            };
-            account.close(month, rates)
-        }
+        Record::Post { day } => account.post(day.month, day.day, day.numbers),
+        Record::Correct { day } => account.correct(day.month, day.day, day.numbers),
+        Record::Close { month, numbers } => account.close(month, numbers),
         Record::Pay { amount } => account.pay(amount),
         Record::Settle {
             final_increase,
@@ -129,7 +113,7 @@ pub fn answers<S: Schedule>(account: &Account<S>) -> (usize, i64, i64) {
     )
 }
 
-// A line as it stands in docs/HISTORY.md: its month, its item, therms and millicents.
+// A line as it stands in docs/LEDGER.md: its month, its item, therms and millicents.
 pub type Written = (u8, u8, i64, i64);
 
 // The line of a number, or the number of the refusal.

@@ -3,6 +3,7 @@ use crate::fixtures::{
     OPEN, QUIET, SMALL, accepts, closing, correction, even, post, posting, refuses, written,
 };
 use account::Account;
+use gas::{ClosingNumbers, DayNumbers};
 use journal::{Day, Record};
 use std::process::Abort;
 
@@ -38,10 +39,8 @@ fn openings(rt: HostRuntime) {
     }
 }
 
-// The last of November, with each number as high as may be.
-const FULL: Day = Day {
-    month: 0,
-    day: 30,
+// A day with each number as high as may be.
+const MOST: DayNumbers = DayNumbers {
     kind: 3,
     curtailed: 1,
     nomination: 200_000,
@@ -52,6 +51,13 @@ const FULL: Day = Day {
     variance_rate: 2_000_000,
 };
 
+// It is the last of November.
+const FULL: Day = Day {
+    month: 0,
+    day: 30,
+    numbers: MOST,
+};
+
 // That day with each number past its limit by one, and as high as its type holds.
 const PAST: [(Day, u8); 23] = [
     (Day { month: 12, ..FULL }, 3),
@@ -59,117 +65,177 @@ const PAST: [(Day, u8); 23] = [
     (Day { day: 0, ..FULL }, 4),
     (Day { day: 31, ..FULL }, 4),
     (Day { day: 255, ..FULL }, 4),
-    (Day { kind: 4, ..FULL }, 5),
-    (Day { kind: 255, ..FULL }, 5),
     (
         Day {
-            curtailed: 2,
+            numbers: DayNumbers { kind: 4, ..MOST },
+            ..FULL
+        },
+        5,
+    ),
+    (
+        Day {
+            numbers: DayNumbers { kind: 255, ..MOST },
+            ..FULL
+        },
+        5,
+    ),
+    (
+        Day {
+            numbers: DayNumbers {
+                curtailed: 2,
+                ..MOST
+            },
             ..FULL
         },
         6,
     ),
     (
         Day {
-            curtailed: 255,
+            numbers: DayNumbers {
+                curtailed: 255,
+                ..MOST
+            },
             ..FULL
         },
         6,
     ),
     (
         Day {
-            nomination: 200_001,
+            numbers: DayNumbers {
+                nomination: 200_001,
+                ..MOST
+            },
             ..FULL
         },
         7,
     ),
     (
         Day {
-            nomination: u32::MAX,
+            numbers: DayNumbers {
+                nomination: u32::MAX,
+                ..MOST
+            },
             ..FULL
         },
         7,
     ),
     (
         Day {
-            receipts: 200_001,
+            numbers: DayNumbers {
+                receipts: 200_001,
+                ..MOST
+            },
             ..FULL
         },
         7,
     ),
     (
         Day {
-            receipts: u32::MAX,
+            numbers: DayNumbers {
+                receipts: u32::MAX,
+                ..MOST
+            },
             ..FULL
         },
         7,
     ),
     (
         Day {
-            reading: 200_001,
+            numbers: DayNumbers {
+                reading: 200_001,
+                ..MOST
+            },
             ..FULL
         },
         7,
     ),
     (
         Day {
-            reading: u32::MAX,
+            numbers: DayNumbers {
+                reading: u32::MAX,
+                ..MOST
+            },
             ..FULL
         },
         7,
     ),
     (
         Day {
-            reading: u32::MAX,
-            after_notice: u32::MAX,
+            numbers: DayNumbers {
+                reading: u32::MAX,
+                after_notice: u32::MAX,
+                ..MOST
+            },
             ..FULL
         },
         7,
     ),
     (
         Day {
-            reading: 199_999,
+            numbers: DayNumbers {
+                reading: 199_999,
+                ..MOST
+            },
             ..FULL
         },
         7,
     ),
     (
         Day {
-            after_notice: 200_001,
+            numbers: DayNumbers {
+                after_notice: 200_001,
+                ..MOST
+            },
             ..FULL
         },
         7,
     ),
     (
         Day {
-            after_notice: u32::MAX,
+            numbers: DayNumbers {
+                after_notice: u32::MAX,
+                ..MOST
+            },
             ..FULL
         },
         7,
     ),
     (
         Day {
-            supply_cost: 2_000_001,
+            numbers: DayNumbers {
+                supply_cost: 2_000_001,
+                ..MOST
+            },
             ..FULL
         },
         7,
     ),
     (
         Day {
-            supply_cost: u32::MAX,
+            numbers: DayNumbers {
+                supply_cost: u32::MAX,
+                ..MOST
+            },
             ..FULL
         },
         7,
     ),
     (
         Day {
-            variance_rate: 2_000_001,
+            numbers: DayNumbers {
+                variance_rate: 2_000_001,
+                ..MOST
+            },
             ..FULL
         },
         7,
     ),
     (
         Day {
-            variance_rate: u32::MAX,
+            numbers: DayNumbers {
+                variance_rate: u32::MAX,
+                ..MOST
+            },
             ..FULL
         },
         7,
@@ -235,9 +301,11 @@ fn a_leap_year(rt: HostRuntime) {
 fn rated(month: u8, index: u32, interruptible: u32, firm: u32) -> Record {
     Record::Close {
         month,
-        index,
-        interruptible,
-        firm,
+        numbers: ClosingNumbers {
+            index,
+            interruptible,
+            firm,
+        },
     }
 }
 

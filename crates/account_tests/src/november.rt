@@ -1,9 +1,11 @@
 // The worked November of docs/HISTORY.md on the code, by calls and by records, and a correction behind it. The figures are that page's.
-use crate::fixtures::{QUIET, SMALL, Written, answers, closing, ends_with, even, post, posting};
+use crate::fixtures::{
+    IDLE, QUIET, SMALL, Written, answers, closing, ends_with, even, post, posting,
+};
 use account::Account;
 use gas::{ClosingNumbers, DayNumbers, PerMille, Schedule};
-use ledger::AccountFault;
 use journal::{Day, Record};
+use ledger::AccountFault;
 use riders::{Franchise, Interim, Rider};
 use std::test::Fail;
 
@@ -79,9 +81,12 @@ pub const OPENING: Record = Record::Open {
 pub const CORRECTION: Record = Record::Correct {
     day: Day {
         day: 30,
-        nomination: 100,
-        receipts: 100,
-        reading: 90,
+        numbers: DayNumbers {
+            nomination: 100,
+            receipts: 100,
+            reading: 90,
+            ..IDLE
+        },
         ..QUIET
     },
 };

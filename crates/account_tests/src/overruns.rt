@@ -3,9 +3,9 @@ use crate::fixtures::{
     DEAR, OPEN, QUIET, SMALL, accepts, call, closing, correction, even, post, refuses,
 };
 use account::{Account, JournalFault};
-use gas::{Item, Layer, PerMille, PriceValues, Schedule, ScheduleFault};
-use ledger::AccountFault;
+use gas::{DayNumbers, Item, Layer, PerMille, PriceValues, Schedule, ScheduleFault};
 use journal::{Day, Record};
+use ledger::AccountFault;
 use riders::{Franchise, Interim, Rider};
 use std::process::Abort;
 
@@ -125,9 +125,12 @@ fn the_lowest_item_comes_first(rt: HostRuntime) {
     let mut account = Account::new(DEAR.on(SMALL));
     accepts(&rt, &mut account, OPEN);
     let critical = Day {
-        kind: 3,
-        nomination: 0,
-        variance_rate: 2_000_000,
+        numbers: DayNumbers {
+            kind: 3,
+            nomination: 0,
+            variance_rate: 2_000_000,
+            ..even(0, 0, 200_000).numbers
+        },
         ..even(0, 0, 200_000)
     };
     post(&rt, &mut account, 1..31, critical);
@@ -218,13 +221,19 @@ fn the_openings_increase_comes_first(rt: HostRuntime) {
 fn a_correction_is_refused_for_another_month(rt: HostRuntime) {
     let mut account = Account::new(SMALL);
     let curtailed = Day {
-        curtailed: 1,
-        after_notice: 200_000,
-        supply_cost: 1_400_000,
+        numbers: DayNumbers {
+            curtailed: 1,
+            after_notice: 200_000,
+            supply_cost: 1_400_000,
+            ..even(1, 0, 200_000).numbers
+        },
         ..even(1, 0, 200_000)
     };
     let last = Day {
-        after_notice: 1,
+        numbers: DayNumbers {
+            after_notice: 1,
+            ..curtailed.numbers
+        },
         ..curtailed
     };
     accepts(&rt, &mut account, OPEN);
@@ -248,7 +257,10 @@ fn a_correction_is_refused_for_another_month(rt: HostRuntime) {
         Layer::Class,
     );
     let day = Day {
-        curtailed: 0,
+        numbers: DayNumbers {
+            curtailed: 0,
+            ..earlier.numbers
+        },
         ..earlier
     };
     accepts(&rt, &mut account, correction(day));

@@ -3,9 +3,9 @@ use crate::fixtures::{
     OPEN, SMALL, accepts, answers, closing, correction, ends_with, even, post, posting, written,
 };
 use account::Account;
-use gas::Schedule;
-use ledger::AccountFault;
+use gas::{DayNumbers, Schedule};
 use journal::{Day, Record};
+use ledger::AccountFault;
 
 // The peak day of a month, or the number of the refusal.
 fn peak<S: Schedule>(account: &Account<S>, month: u8) -> Result<Option<u8>, u8> {
@@ -69,11 +69,14 @@ fn of_equal_peaks(rt: HostRuntime) {
     let mut account = Account::new(SMALL);
     accepts(&rt, &mut account, OPEN);
     let received = Day {
-        nomination: 100,
-        receipts: 100,
+        numbers: DayNumbers {
+            nomination: 100,
+            receipts: 100,
+            ..even(0, 3, 10).numbers
+        },
         ..even(0, 3, 10)
     };
-    accepts(&rt, &mut account, posting(receipts_of));
+    accepts(&rt, &mut account, posting(received));
     accepts(&rt, &mut account, posting(even(0, 4, 20)));
     accepts(&rt, &mut account, posting(even(0, 9, 20)));
     let answer = peak(&account, 0);
@@ -86,13 +89,19 @@ fn of_the_open_therms(rt: HostRuntime) {
     let mut account = Account::new(SMALL);
     accepts(&rt, &mut account, OPEN);
     let short = Day {
-        receipts: 7,
+        numbers: DayNumbers {
+            receipts: 7,
+            ..even(0, 0, 10).numbers
+        },
         ..even(0, 0, 10)
     };
     post(&rt, &mut account, 1..31, short);
     assert_eq!(rt; answers(&account), (0, 0, -90));
     let over = Day {
-        receipts: 5,
+        numbers: DayNumbers {
+            receipts: 5,
+            ..even(1, 1, 1).numbers
+        },
         ..even(1, 1, 1)
     };
     accepts(&rt, &mut account, posting(over));

@@ -1,9 +1,9 @@
 // The refusals of each call in their order. A call begins with every fault that can go together, and loses the first of them at each step, until it is accepted.
 use crate::fixtures::{
-    DEAR, OPEN, QUIET, SMALL, accepts, closing, correction, even, pay, post, posting, refuses,
+    DEAR, IDLE, OPEN, QUIET, SMALL, accepts, closing, correction, even, pay, post, posting, refuses,
 };
 use account::Account;
-use gas::Schedule;
+use gas::{ClosingNumbers, DayNumbers, Schedule};
 use journal::{Day, Record};
 use riders::{Interim, Rider};
 use std::process::Abort;
@@ -12,10 +12,14 @@ use std::process::Abort;
 const FAULTY: Day = Day {
     month: 12,
     day: 0,
+    numbers: WRONG,
+};
+
+const WRONG: DayNumbers = DayNumbers {
     kind: 4,
     curtailed: 2,
     nomination: 200_001,
-    ..QUIET
+    ..IDLE
 };
 
 // That day with one fault less each time, and the number that it is refused with.
@@ -32,15 +36,21 @@ const FAULTY_DAYS: [(Day, u8); 5] = [
     ),
     (
         Day {
-            curtailed: 2,
-            nomination: 200_001,
+            numbers: DayNumbers {
+                curtailed: 2,
+                nomination: 200_001,
+                ..IDLE
+            },
             ..QUIET
         },
         6,
     ),
     (
         Day {
-            nomination: 200_001,
+            numbers: DayNumbers {
+                nomination: 200_001,
+                ..IDLE
+            },
             ..QUIET
         },
         7,
@@ -60,9 +70,11 @@ fn opening(leap: u8, increase: u16, first: u8) -> Record {
 fn rated(month: u8, index: u32) -> Record {
     Record::Close {
         month,
-        index,
-        interruptible: 1_000,
-        firm: 1_000,
+        numbers: ClosingNumbers {
+            index,
+            interruptible: 1_000,
+            firm: 1_000,
+        },
     }
 }
 

@@ -3,7 +3,7 @@ use crate::fixtures::{
     OPEN, SMALL, accepts, closing, correction, even, pay, post, posting, refuses,
 };
 use account::Account;
-use gas::Schedule;
+use gas::{DayNumbers, Schedule};
 use journal::{Day, Record};
 use riders::{Interim, Rider};
 use std::process::Abort;
@@ -22,7 +22,10 @@ fn post_november<S: Schedule>(rt: &impl Abort, account: &mut Account<S>) {
     );
     post(rt, account, 1..30, even(0, 0, 10));
     let day = Day {
-        receipts: 12,
+        numbers: DayNumbers {
+            receipts: 12,
+            ..even(0, 30, 10).numbers
+        },
         ..even(0, 30, 10)
     };
     accepts(rt, account, posting(day));
@@ -74,7 +77,10 @@ fn corrections(rt: HostRuntime) {
     pay(&rt, &mut account, 1_019);
     assert_eq!(rt; account.line_count(), 1_023);
     let day = Day {
-        receipts: 29,
+        numbers: DayNumbers {
+            receipts: 29,
+            ..even(0, 15, 30).numbers
+        },
         ..even(0, 15, 30)
     };
     refuses(&rt, &mut account, correction(day), 29);
@@ -94,7 +100,10 @@ fn corrections_of_a_full_account(rt: HostRuntime) {
     assert_eq!(rt; account.peak_day(0), Ok(Some(7)));
     // no line is due for another rate of a normal day, and none where a day takes over from another
     let day = Day {
-        variance_rate: 2_000_000,
+        numbers: DayNumbers {
+            variance_rate: 2_000_000,
+            ..even(0, 15, 10).numbers
+        },
         ..even(0, 15, 10)
     };
     accepts(&rt, &mut account, correction(day));

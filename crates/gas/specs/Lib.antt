@@ -10,3 +10,4 @@ pub mod Money
 pub mod Month
 pub mod Notice
 pub mod Tariffs
+pub mod Worked

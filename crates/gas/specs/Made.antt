@@ -1,5 +1,7 @@
 -- The lawful day that numbers make.
-use Rattle.std.specs.Prelude.{◌≡◌, ℕ, Bool, true, false, [], ◌∷◌, Ok, Err, Result, ◌==◌, nat_le, slice_index_or, refl}
+use Rattle.std.specs.Prelude.{
+  ◌≡◌, ℕ, Bool, true, false, [], ◌∷◌, Ok, Err, Result, ◌==◌, nat_le, slice_index_or, refl
+}
 use Rattle.std.specs.Result.{result_and}
 use Rattle.std.proofs.lemmas.Bool.{and_parts, leb-true}
 use Rattle.gas.specs.declared.day.DayKind.{DayKind}
@@ -40,7 +42,8 @@ made_day n ok =
     }
 
 -- that day, or refusal 7, by whether they are
-abbrev pub day_tested : (n : DayNumbers) (ok : Bool) → has_lawful_quantities n ≡ ok → Result DayRecord InputFault
+abbrev pub day_tested :
+    (n : DayNumbers) (ok : Bool) → has_lawful_quantities n ≡ ok → Result DayRecord InputFault
 day_tested n true e = Ok (made_day n e)
 day_tested n false e = Err input.Quantity
 

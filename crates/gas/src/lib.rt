@@ -1,4 +1,5 @@
-//! What a gas account is made of: therms, money and rates, the calendar, the raw numbers of days and
+//! What a gas account is made of: therms, money and rates, the calendar, the raw numbers of days
+//! and
 //! months and the lawful values that are made of them, every refusal of such numbers, and the
 //! interfaces of pipelines and rate schedules.
 #![tactic(auto)]
@@ -15,6 +16,7 @@ mod month;
 mod pipeline;
 mod schedule;
 mod units;
+mod worked;
 
 pub use amount::{Amount, MOST_AMOUNT};
 pub use calendar::{LAST_MONTH, Month};
@@ -28,3 +30,4 @@ pub use month::{Closing, ClosingNumbers, MOST_A_MONTH, Totals, TotalsNumbers};
 pub use pipeline::Pipeline;
 pub use schedule::Schedule;
 pub use units::{MOST_PER_MILLE, MOST_PER_THERM, Millicents, PerMille, Rate, Therms};
+pub use worked::worked_limits;

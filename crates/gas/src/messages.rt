@@ -5,15 +5,27 @@
 const MESSAGES: [(u8, &str); 22] = [
     (1, "the kind of a journal record is not 1 to 6"),
     (2, "the journal ends inside a record"),
-    (3, "a month is above 11, or the first interim month comes after the last"),
+    (
+        3,
+        "a month is above 11, or the first interim month comes after the last",
+    ),
     (4, "the day is 0, or the month does not have it"),
     (5, "the kind of a day is above 3"),
     (6, "a mark is neither 0 nor 1"),
-    (7, "a quantity, a rate or a base level is outside its limits"),
-    (8, "a per mille is above 1000, or a percentage is above its limit"),
+    (
+        7,
+        "a quantity, a rate or a base level is outside its limits",
+    ),
+    (
+        8,
+        "a per mille is above 1000, or a percentage is above its limit",
+    ),
     (9, "the payment is 0, or above 10000000000000 millicents"),
     (10, "the buffer is shorter than the record"),
-    (11, "the weather rider's gas year starts outside 2020 to 2026"),
+    (
+        11,
+        "the weather rider's gas year starts outside 2020 to 2026",
+    ),
     (20, "the account is not opened"),
     (21, "the account is opened already"),
     (22, "the day is posted already"),
@@ -22,7 +34,10 @@ const MESSAGES: [(u8, &str); 22] = [
     (25, "the month has not all of its days"),
     (26, "the account is settled already"),
     (27, "an interim month is open"),
-    (28, "a price is further than 10000000000000 millicents from zero"),
+    (
+        28,
+        "a price is further than 10000000000000 millicents from zero",
+    ),
     (29, "more lines are due than the account has room for"),
     (30, "no line has that number"),
 ];

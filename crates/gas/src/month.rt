@@ -52,7 +52,8 @@ impl TryFrom<ClosingNumbers> for Closing {
 
     type Error = InputFault;
 
-    ghost try_from_gives = { λ numbers made. answer_by closing_numbers made ≡ checked_closing numbers };
+    ghost try_from_gives = { λ numbers made.
+        answer_by closing_numbers made ≡ checked_closing numbers };
 
     fn try_from(numbers: ClosingNumbers) -> Result<Closing, InputFault> {
         Ok(Closing {
@@ -69,7 +70,8 @@ impl TryFrom<TotalsNumbers> for Totals {
 
     type Error = InputFault;
 
-    ghost try_from_gives = { λ numbers made. answer_by totals_numbers made ≡ checked_totals numbers };
+    ghost try_from_gives = { λ numbers made.
+        answer_by totals_numbers made ≡ checked_totals numbers };
 
     fn try_from(numbers: TotalsNumbers) -> Result<Totals, InputFault> {
         if numbers.receipts > MOST_A_MONTH || numbers.readings > MOST_A_MONTH {

@@ -25,7 +25,8 @@ pub trait Pipeline {
     fn daily(&self, month: Month, day: &DayRecord) -> Millicents
         ensures { result.amount ≡ pos (daily self.now month.number day.now) };
 
-    /// The monthly balancing of a month's totals, in millicents; below zero where the account sells.
+    /// The monthly balancing of a month's totals, in millicents; below zero where the account
+    /// sells.
     fn monthly(&self, totals: &Totals) -> Millicents
         ensures { result.amount ≡ monthly self.now (totals_numbers totals.now) };
 

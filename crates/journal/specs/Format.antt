@@ -1,4 +1,5 @@
--- How a record lies in bytes: its kind byte, and behind it the numbers that records of that kind have.
+-- How a record lies in bytes: its kind byte, and behind it the numbers that records of that kind
+-- have.
 -- Words:
 -- `kind_byte`, a record's first byte
 -- `widths`, the layout of a kind's body: how many bytes each of its numbers has, in order

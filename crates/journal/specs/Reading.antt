@@ -4,7 +4,10 @@
 -- `read_front`, what a list of bytes begins with
 -- `answer` and `after`, what a reader at a offset answers, and where it then stands
 -- `Gives`, what a reader gives of the whole rest of a journal
-use Rattle.std.specs.Prelude.{◌≡◌, ℕ, ◌+◌, Bool, if◌then◌else◌, List, [], ◌∷◌, length, drop, Some, None, Ok, Err, Option, Result, sum, ◌==◌, nat_le, slice_index}
+use Rattle.std.specs.Prelude.{
+  ◌≡◌, ℕ, ◌+◌, Bool, if◌then◌else◌, List, [], ◌∷◌, length, drop, Some, None, Ok, Err, Option,
+  Result, sum, ◌==◌, nat_le, slice_index
+}
 use Rattle.std.specs.Int.{is_in_range}
 use Rattle.std.specs.Result.{result_map_both}
 use Rattle.gas.specs.declared.month.ClosingNumbers.{ClosingNumbers}
@@ -46,7 +49,8 @@ closing_of ns = record {
   firm = slice_index ns 3;
 }
 
--- the record of one of the six kinds whose numbers are given in the order of its bytes; it is asked of no other kind
+-- the record of one of the six kinds whose numbers are given in the order of its bytes; it is asked
+-- of no other kind
 abbrev pub record_of_kind : ℕ → List ℕ → Record
 record_of_kind k ns =
     if k == 1 then Open (slice_index ns 0) (slice_index ns 1) (slice_index ns 2) (slice_index ns 3)
@@ -56,9 +60,11 @@ record_of_kind k ns =
     else if k == 5 then Pay (slice_index ns 0)
     else Settle (slice_index ns 0) (slice_index ns 1)
 
--- cut short where fewer bytes are left than the row of numbers takes, else what is made of the numbers
+-- cut short where fewer bytes are left than the row of numbers takes, else what is made of the
+-- numbers
 abbrev pub read_row : {A : Type 0} → List ℕ → (List ℕ → A) → List ℕ → Result A ReadFault
-read_row ws make rest = if nat_le (sum ws) (length rest) then Ok (make (row_at ws rest 0)) else Err CutShort
+read_row ws make rest =
+    if nat_le (sum ws) (length rest) then Ok (make (row_at ws rest 0)) else Err CutShort
 
 -- the day that post and correct carry
 abbrev pub read_day : List ℕ → Result Day ReadFault
@@ -87,7 +93,8 @@ with_offset i (Err f) = Err f
 abbrev pub answer_at : List ℕ → ℕ → Result (Option Located) ReadFault
 answer_at bs i = with_offset i (read_front (drop i bs))
 
--- the offset behind the record in an answer; the reader's own where there is none, also after a refusal
+-- the offset behind the record in an answer; the reader's own where there is none, also after a
+-- refusal
 abbrev pub offset_behind : ℕ → Result (Option Located) ReadFault → ℕ
 offset_behind i (Ok None) = i
 offset_behind i (Ok (Some p)) = i + record_length p.«record»

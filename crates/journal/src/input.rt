@@ -23,6 +23,8 @@ fn not_too_long(bytes: Vec<u8>) -> Option<Vec<u8>>
 pub fn load<R: Read + Drop>(alloc: Global, input: R) -> io::Result<Option<Vec<u8>>>
     ensures within { IfOk result (λ o. IfSome o (λ bytes. vec_len bytes ≤ MOST_BYTES)) }
 
+    ensures most { MOST_BYTES ≡ 65536 }
+
     // where the stream's bytes are known, as those of a slice are
     ensures whole { IfSome (R.remaining input) (λ all.
         IfOk result (λ o. option_map vec_items o ≡ input_taken all)) }

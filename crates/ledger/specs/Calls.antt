@@ -1,7 +1,30 @@
 -- The six calls of an account, and the one outcome of each.
 use Rattle.std.specs.Prelude.{
-  ℕ, ◌+◌, Bool, if◌then◌else◌, not, ◌&&◌, List, [], ◌∷◌, ◌++◌, length, map, pos, neg_ℤ, is_some,
-  Some, None, Ok, Err, Result, ◌==◌, nat_le, nat_lt, slice_index_or, slice_set
+  ℕ,
+  ◌+◌,
+  Bool,
+  if◌then◌else◌,
+  not,
+  ◌&&◌,
+  List,
+  [],
+  ◌∷◌,
+  ◌++◌,
+  length,
+  map,
+  pos,
+  neg_ℤ,
+  is_some,
+  Some,
+  None,
+  Ok,
+  Err,
+  Result,
+  ◌==◌,
+  nat_le,
+  nat_lt,
+  slice_index_or,
+  slice_set,
 }
 use Rattle.std.specs.Int.{is_in_range}
 use Rattle.std.specs.List.{push}
@@ -27,7 +50,15 @@ use Rattle.ledger.specs.Due.{lines_due_in}
 use Rattle.ledger.specs.Headings.{line_of}
 use Rattle.gas.specs.Tariffs.{Tariff}
 use Rattle.ledger.specs.Year.{
-  Opening, Settlement, Year, is_opened, is_settled, opening_of, running, settled, unknown_year
+  Opening,
+  Settlement,
+  Year,
+  is_opened,
+  is_settled,
+  opening_of,
+  running,
+  settled,
+  unknown_year,
 }
 
 -- a call with its numbers as they came, lawful or not

@@ -4,8 +4,18 @@ use Rattle.gas.specs.declared.items.PriceValues.{PriceValues}
 use Rattle.gas.specs.Faults.{input_number, schedule_values}
 use Rattle.ledger.specs.declared.faults.AccountFault.{AccountFault}
 use Rattle.ledger.specs.declared.faults.AccountFault.TheVariants.{
-  Input, NotOpened, OpenedAlready, PostedAlready, NotPosted, NotEarliest, LacksDay, SettledAlready,
-  InterimOpen, Schedule, NoRoom, NoLine
+  Input,
+  NotOpened,
+  OpenedAlready,
+  PostedAlready,
+  NotPosted,
+  NotEarliest,
+  LacksDay,
+  SettledAlready,
+  InterimOpen,
+  Schedule,
+  NoRoom,
+  NoLine,
 }
 
 -- 28 comes with the month, the item and the layer at which the amount passed its limit; the others

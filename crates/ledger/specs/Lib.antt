@@ -8,4 +8,5 @@ pub mod Prices
 pub mod Questions
 pub mod Runs
 pub mod Sums
+pub mod Worked
 pub mod Year

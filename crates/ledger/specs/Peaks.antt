@@ -1,6 +1,16 @@
 -- The peak day of a month.
 use Rattle.std.specs.Prelude.{
-  ◌≡◌, ℕ, ◌-◌, ◌≤◌, true, [], Some, None, Option, nat_le, slice_index_or
+  ◌≡◌,
+  ℕ,
+  ◌-◌,
+  ◌≤◌,
+  true,
+  [],
+  Some,
+  None,
+  Option,
+  nat_le,
+  slice_index_or,
 }
 use Rattle.std.specs.List.{list_all}
 use Rattle.gas.specs.declared.day.DayRecord.{DayRecord}

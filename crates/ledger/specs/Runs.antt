@@ -3,8 +3,26 @@
 -- a history, the calls so far with their answers, the newest first
 -- a run, what a new account has become by a history
 use Rattle.std.specs.Prelude.{
-  ◌≡◌, ℕ, ◌<◌, ◌≤◌, true, false, if◌then◌else◌, List, [], ◌∷◌, length, ℤ, ◌+ℤ◌, Some, None, Ok,
-  Option, ◌==◌, is_some, slice_index_or
+  ◌≡◌,
+  ℕ,
+  ◌<◌,
+  ◌≤◌,
+  true,
+  false,
+  if◌then◌else◌,
+  List,
+  [],
+  ◌∷◌,
+  length,
+  ℤ,
+  ◌+ℤ◌,
+  Some,
+  None,
+  Ok,
+  Option,
+  ◌==◌,
+  is_some,
+  slice_index_or,
 }
 use Rattle.std.specs.Int.{int_min}
 use Rattle.std.specs.Result.{result_err, result_unwrap_or}
@@ -18,13 +36,25 @@ use Rattle.ledger.specs.declared.lines.Line.{Line}
 use Rattle.ledger.specs.Calls.{Call, State, year_after, outcome}
 use Rattle.ledger.specs.Days.{IsDayPlace, net_therms, posted_in}
 use Rattle.ledger.specs.Headings.{
-  heading_item, heading_month, money_on, sum_under, sum_where, therms_on
+  heading_item,
+  heading_month,
+  money_on,
+  sum_under,
+  sum_where,
+  therms_on,
 }
 use Rattle.gas.specs.Tariffs.{Tariff}
 use Rattle.ledger.specs.Prices.{open_therms, price_at, price_of}
 use Rattle.ledger.specs.Sums.{sum_z}
 use Rattle.ledger.specs.Year.{
-  Opening, Settlement, Year, interim_months, is_interim, is_opened, settled, unknown_year
+  Opening,
+  Settlement,
+  Year,
+  interim_months,
+  is_interim,
+  is_opened,
+  settled,
+  unknown_year,
 }
 use Rattle.gas.specs.declared.calendar.TheConstants.{LAST_MONTH}
 

@@ -5,6 +5,8 @@
 
 mod faults;
 mod lines;
+mod worked;
 
 pub use faults::AccountFault;
 pub use lines::{Heading, Line, MOST_LINES, MOST_PAID, SignedTherms, Target};
+pub use worked::worked_limits;

@@ -63,7 +63,7 @@ mod days {
                 ..LAWFUL
             }),
             Some(7),
-            "more after notice than reading_of"
+            "more after notice than metered"
         );
         assert_eq!(rt;
             refusal(DayNumbers {

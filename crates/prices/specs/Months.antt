@@ -14,9 +14,15 @@ use Rattle.prices.specs.Rows.{header}
 abbrev pub IsMonth : MonthNumbers → Pattern → ℕ → MonthFacts → Type 0
 IsMonth numbers pattern n f = (f.numbers ≡ numbers) × (map numbers_of f.days ≡ days_to pattern n)
 
--- a month's number, its X, Y and Z, the increase, and the day of the gas year's first unauthorized use, or 0
+-- a month's number, its X, Y and Z, the increase, and the day of the gas year's first unauthorized
+-- use, or 0
 abbrev pub numbers : ℕ → ℕ → ℕ → ℕ → ℕ → ℕ → MonthNumbers
-numbers month x y z increase first = record { month = month; closing = record { index = x; interruptible = y; firm = z }; increase = increase; first = first }
+numbers month x y z increase first = record {
+  month = month;
+  closing = record { index = x; interruptible = y; firm = z };
+  increase = increase;
+  first = first;
+}
 
 -- a November with an increase, in which the fifth is the first unauthorized day
 abbrev pub IsNovember : MonthFacts → Type 0
@@ -45,15 +51,20 @@ PrintsMixed text =
 
 -- those of the full December, once critical and once normal
 abbrev pub PrintsFull : List ℕ → Type 0
-PrintsFull text = (critical normal : MonthFacts) × IsDecember (Full Critical) critical × IsDecember (Full Normal) normal × (text ≡ refusals_text critical normal)
+PrintsFull text =
+    (critical normal : MonthFacts) × IsDecember (Full Critical) critical ×
+    IsDecember (Full Normal) normal × (text ≡ refusals_text critical normal)
 
 -- those of March and April
 abbrev pub PrintsSpring : List ℕ → Type 0
-PrintsSpring text = (march april : MonthFacts) × IsMarch march × IsApril april × (text ≡ seasons_text march april)
+PrintsSpring text =
+    (march april : MonthFacts) × IsMarch march × IsApril april × (text ≡ seasons_text march april)
 
 -- those of November once more, and of an idle December
 abbrev pub PrintsStacked : List ℕ → Type 0
-PrintsStacked text = (november idle : MonthFacts) × IsNovember november × IsDecember Idle idle × (text ≡ stacks_text november idle)
+PrintsStacked text =
+    (november idle : MonthFacts) × IsNovember november ×
+    IsDecember Idle idle × (text ≡ stacks_text november idle)
 
 -- a text that has grown by one that is printed
 abbrev pub Grows : (List ℕ → Type 0) → List ℕ → List ℕ → Type 0
@@ -62,5 +73,6 @@ Grows Prints before after = (more : List ℕ) × Prints more × (after ≡ befor
 -- everything: the header, and then all cases
 abbrev pub PrintsAll : List ℕ → Type 0
 PrintsAll text =
-    (mixed full spring stacked : List ℕ) × PrintsMixed mixed × PrintsFull full × PrintsSpring spring × PrintsStacked stacked ×
+    (mixed full spring stacked : List ℕ) × PrintsMixed mixed × PrintsFull full ×
+    PrintsSpring spring × PrintsStacked stacked ×
     (text ≡ header ++ (codes "\n" ++ (mixed ++ (full ++ (spring ++ stacked)))))

@@ -14,7 +14,8 @@ header = codes "case item millicents"
 
 -- the case, the item and its amount
 abbrev pub amount_text : ℕ → Item → ℤ → List ℕ
-amount_text n item z = decimal n ++ (codes " " ++ (decimal (item_number item) ++ (codes " " ++ signed_decimal z)))
+amount_text n item z =
+    decimal n ++ (codes " " ++ (decimal (item_number item) ++ (codes " " ++ signed_decimal z)))
 
 -- a fault's number, month, item and layer
 abbrev pub values_text : ℕ × PriceValues → List ℕ
@@ -24,7 +25,9 @@ values_text v =
 
 -- the case, the item and the fault
 abbrev pub refusal_text : ℕ → Item → ScheduleFault → List ℕ
-refusal_text n item fault = decimal n ++ (codes " " ++ (decimal (item_number item) ++ (codes " refused " ++ values_text (schedule_values fault))))
+refusal_text n item fault =
+    decimal n ++ (codes " " ++ (decimal (item_number item) ++ (codes " refused " ++
+    values_text (schedule_values fault))))
 
 -- the amount, or the fault
 abbrev pub answer_text : ℕ → Item → Answer → List ℕ

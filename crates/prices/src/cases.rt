@@ -1,8 +1,13 @@
 // The cases: months of days on schedules.
 ghost use Rattle.std.specs.Prelude.{◌≡◌, ◌++◌, Ok, IfOk, OnOk, string_bytes};
 ghost use Rattle.gas.specs.Facts.{checked_facts, facts_of};
-ghost use Rattle.prices.specs.Months.{Grows, PrintsAll, PrintsFull, PrintsMixed, PrintsSpring, PrintsStacked};
-ghost use Rattle.prices.specs.Cases.{dual_fuel_text, firm_and_tolerance_text, mixed_text, refusals_text, riders_on_riders_text, riders_text, seasons_text, stacks_text};
+ghost use Rattle.prices.specs.Months.{
+    Grows, PrintsAll, PrintsFull, PrintsMixed, PrintsSpring, PrintsStacked
+};
+ghost use Rattle.prices.specs.Cases.{
+    dual_fuel_text, firm_and_tolerance_text, mixed_text, refusals_text, riders_on_riders_text,
+    riders_text, seasons_text, stacks_text
+};
 
 use crate::days::Pattern;
 use crate::tables::{head, table};
@@ -17,7 +22,8 @@ use std::alloc::Global;
 use std::fmt;
 use classes::{Class, SmallDualFuel};
 
-// A November with an increase in force, in which the fifth is the gas year's first unauthorized day.
+// A November with an increase in force, in which the fifth is the gas year's first unauthorized
+// day.
 const NOVEMBER: MonthNumbers = MonthNumbers {
     month: 0,
     closing: ClosingNumbers {
@@ -69,7 +75,8 @@ const APRIL: MonthNumbers = MonthNumbers { month: 5, ..MARCH };
 
 // The facts of a month, which is lawful.
 fn lawful<'a>(numbers: MonthNumbers, days: &'a [DayRecord]) -> Facts<'a>
-    requires { checked_facts (record { numbers = numbers; days = days.now }) ≡ Ok (record { numbers = numbers; days = days.now }) }
+    requires { checked_facts (record { numbers = numbers; days = days.now }) ≡
+        Ok (record { numbers = numbers; days = days.now }) }
     ensures { Ok (facts_of result) ≡ checked_facts (record { numbers = numbers; days = days.now }) }
 {
     Facts::new(numbers, days).unwrap()
@@ -82,7 +89,8 @@ const UPPER: SmallDualFuel = SmallDualFuel {
 
 // The dual fuel classes on Northern.
 fn dual_fuel(text: &mut String, november: &Facts, may: &Facts) -> Result<(), fmt::Error>
-    ensures { OnOk result (string_bytes text.new ≡ string_bytes text.old ++ dual_fuel_text (facts_of november.now) (facts_of may.now)) }
+    ensures { OnOk result (string_bytes text.new ≡
+        string_bytes text.old ++ dual_fuel_text (facts_of november.now) (facts_of may.now)) }
 {
     let upper = Class {
         terms: UPPER,
@@ -98,7 +106,9 @@ fn dual_fuel(text: &mut String, november: &Facts, may: &Facts) -> Result<(), fmt
 
 // The class with a base level, and the pipeline with tolerances.
 fn firm_and_tolerance(text: &mut String, november: &Facts, may: &Facts) -> Result<(), fmt::Error>
-    ensures { OnOk result (string_bytes text.new ≡ string_bytes text.old ++ firm_and_tolerance_text (facts_of november.now) (facts_of may.now)) }
+    ensures { OnOk result (string_bytes text.new ≡
+        string_bytes text.old ++
+        firm_and_tolerance_text (facts_of november.now) (facts_of may.now)) }
 {
     let firm = Class {
         terms: FIRM,
@@ -129,7 +139,8 @@ fn firm_and_tolerance(text: &mut String, november: &Facts, may: &Facts) -> Resul
 
 // Each rider alone.
 fn riders(text: &mut String, november: &Facts, may: &Facts) -> Result<(), fmt::Error>
-    ensures { OnOk result (string_bytes text.new ≡ string_bytes text.old ++ riders_text (facts_of november.now) (facts_of may.now)) }
+    ensures { OnOk result (string_bytes text.new ≡
+        string_bytes text.old ++ riders_text (facts_of november.now) (facts_of may.now)) }
 {
     let weather = WEATHER.on(small());
     table(text, 10, &Interim.on(small()), november)?;
@@ -142,7 +153,8 @@ fn riders(text: &mut String, november: &Facts, may: &Facts) -> Result<(), fmt::E
 
 // Riders upon riders of other kinds, and a franchise upon a franchise.
 fn riders_on_riders(text: &mut String, november: &Facts) -> Result<(), fmt::Error>
-    ensures { OnOk result (string_bytes text.new ≡ string_bytes text.old ++ riders_on_riders_text (facts_of november.now)) }
+    ensures { OnOk result (string_bytes text.new ≡
+        string_bytes text.old ++ riders_on_riders_text (facts_of november.now)) }
 {
     let franchise = FRANCHISE.on(small());
     let all_but_franchise = Interim.on(WEATHER.on(AFFORDABILITY.on(small())));
@@ -155,7 +167,8 @@ fn riders_on_riders(text: &mut String, november: &Facts) -> Result<(), fmt::Erro
 
 // Amounts past their limit: at the class, at a rider, and at both.
 fn refusals(text: &mut String, critical: &Facts, normal: &Facts) -> Result<(), fmt::Error>
-    ensures { OnOk result (string_bytes text.new ≡ string_bytes text.old ++ refusals_text (facts_of critical.now) (facts_of normal.now)) }
+    ensures { OnOk result (string_bytes text.new ≡
+        string_bytes text.old ++ refusals_text (facts_of critical.now) (facts_of normal.now)) }
 {
     let interim = Interim.on(DEAR_AFFORDABILITY.on(large()));
     table(text, 19, &FRANCHISE.on(large()), critical)?;
@@ -166,7 +179,8 @@ fn refusals(text: &mut String, critical: &Facts, normal: &Facts) -> Result<(), f
 
 // The months at which Northern's rates change.
 fn seasons(text: &mut String, march: &Facts, april: &Facts) -> Result<(), fmt::Error>
-    ensures { OnOk result (string_bytes text.new ≡ string_bytes text.old ++ seasons_text (facts_of march.now) (facts_of april.now)) }
+    ensures { OnOk result (string_bytes text.new ≡
+        string_bytes text.old ++ seasons_text (facts_of march.now) (facts_of april.now)) }
 {
     table(text, 22, &small(), march)?;
     table(text, 23, &small(), april)?;
@@ -175,7 +189,8 @@ fn seasons(text: &mut String, march: &Facts, april: &Facts) -> Result<(), fmt::E
 
 // Riders upon riders of their own kind, and a share of a sum below zero.
 fn stacks(text: &mut String, november: &Facts, idle: &Facts) -> Result<(), fmt::Error>
-    ensures { OnOk result (string_bytes text.new ≡ string_bytes text.old ++ stacks_text (facts_of november.now) (facts_of idle.now)) }
+    ensures { OnOk result (string_bytes text.new ≡
+        string_bytes text.old ++ stacks_text (facts_of november.now) (facts_of idle.now)) }
 {
     let affordability = AFFORDABILITY.on(small());
     let interim = Interim.on(small());
@@ -189,7 +204,8 @@ fn stacks(text: &mut String, november: &Facts, idle: &Facts) -> Result<(), fmt::
 
 // The cases of November and May.
 fn november_and_may(text: &mut String, november: &Facts, may: &Facts) -> Result<(), fmt::Error>
-    ensures { OnOk result (string_bytes text.new ≡ string_bytes text.old ++ mixed_text (facts_of november.now) (facts_of may.now)) }
+    ensures { OnOk result (string_bytes text.new ≡
+        string_bytes text.old ++ mixed_text (facts_of november.now) (facts_of may.now)) }
 {
     dual_fuel(text, november, may)?;
     firm_and_tolerance(text, november, may)?;
@@ -198,7 +214,8 @@ fn november_and_may(text: &mut String, november: &Facts, may: &Facts) -> Result<
     Ok(())
 }
 
-// The mixed November and May. The facts borrow the days, so that each pair of months is made where its cases are printed.
+// The mixed November and May. The facts borrow the days, so that each pair of months is made where
+// its cases are printed.
 #[tactic(auto, using(crate::proofs::Months::as_many))]
 fn mixed_months(text: &mut String, alloc: Global) -> anyhow::Result<()>
     ensures { OnOk result (Grows PrintsMixed (string_bytes text.old) (string_bytes text.new)) }

@@ -81,7 +81,8 @@ impl Pattern {
         }
     }
 
-    // The days of a month in order. `1..=count` ends in two ways, each of which would have to be proved.
+    // The days of a month in order. `1..=count` ends in two ways, each of which would have to be
+    // proved.
     pub fn days(self, alloc: Global, count: u8) -> anyhow::Result<Vec<DayRecord>>
         requires { count ≤ 31 }
         ensures { IfOk result (λ days. map numbers_of days.items ≡ days_to self count) }

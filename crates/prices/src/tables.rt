@@ -10,7 +10,8 @@ use std::fmt;
 
 // The row above all others.
 pub fn head(text: &mut String) -> Result<(), fmt::Error>
-    ensures { OnOk result (string_bytes text.new ≡ string_bytes text.old ++ (header ++ codes "\n")) }
+    ensures { OnOk result (string_bytes text.new ≡
+        string_bytes text.old ++ (header ++ codes "\n")) }
 {
     writeln!(text, "case item millicents")?;
     Ok(())
@@ -24,7 +25,9 @@ fn rows<S: Schedule>(
     facts: &Facts,
     items: &[Item],
 ) -> Result<(), fmt::Error>
-    ensures { OnOk result (string_bytes text.new ≡ string_bytes text.old ++ table_text case ((S.tariff schedule.now).price (facts_of facts.now)) items.now) }
+    ensures { OnOk result (string_bytes text.new ≡
+        string_bytes text.old ++
+        table_text case ((S.tariff schedule.now).price (facts_of facts.now)) items.now) }
 {
     for item in items {
         let answer = schedule.price(facts, *item);
@@ -46,7 +49,9 @@ pub fn table<S: Schedule>(
     schedule: &S,
     facts: &Facts,
 ) -> Result<(), fmt::Error>
-    ensures { OnOk result (string_bytes text.new ≡ string_bytes text.old ++ case_text case (S.tariff schedule.now).price (facts_of facts.now)) }
+    ensures { OnOk result (string_bytes text.new ≡
+        string_bytes text.old ++
+        case_text case (S.tariff schedule.now).price (facts_of facts.now)) }
 {
     rows(text, case, schedule, facts, &Item::ALL)
 }

@@ -1,6 +1,7 @@
 -- What a listing of a journal says.
 -- Words:
--- `row_text`, the text of one record, and `refusal_text`, that of the refusal at which reading stops
+-- `row_text`, the text of one record, and `refusal_text`, that of the refusal at which reading
+-- stops
 -- `listing_text`, the text of a whole journal
 use Rattle.std.specs.Prelude.{◌≡◌, ℕ, ◌+◌, List, [], ◌∷◌, ◌++◌, Some, None, codes, decimal, Option}
 use Rattle.journal.specs.declared.faults.ReadFault.{ReadFault}

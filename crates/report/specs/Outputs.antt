@@ -7,10 +7,13 @@ use Rattle.ledger.specs.Runs.{new_state}
 use Rattle.report.specs.Tariffs.{fixed_tariff}
 use Rattle.report.specs.Rows.{played_text}
 
--- the text of the account that a journal makes of a new one, on the program's tariff, and of what was refused on the way
+-- the text of the account that a journal makes of a new one, on the program's tariff, and of what
+-- was refused on the way
 abbrev pub PrintsPlayed : List ℕ → List ℕ → Type 0
 PrintsPlayed bytes text =
-    (b : State) × (refusals : List Refusal) × Played fixed_tariff bytes new_state b refusals × (text ≡ played_text refusals b.lines)
+    (b : State) × (refusals : List Refusal) ×
+    Played fixed_tariff bytes new_state b refusals ×
+    (text ≡ played_text refusals b.lines)
 
 -- by the input, or none where it has more than 65,536 bytes: then the one row is `too long`
 abbrev pub Prints : Option (List ℕ) → List ℕ → Type 0

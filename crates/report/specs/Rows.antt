@@ -1,4 +1,5 @@
--- What the program prints of a journal that was played into an account: what was refused, the lines, and their sum.
+-- What the program prints of a journal that was played into an account: what was refused, the
+-- lines, and their sum.
 use Rattle.std.specs.Prelude.{ℕ, ◌+◌, List, [], ◌∷◌, ◌++◌, ℤ, codes, decimal}
 use Rattle.std.specs.Fmt.{signed_decimal}
 use Rattle.account.specs.declared.faults.Refusal.{Refusal}
@@ -9,7 +10,8 @@ use Rattle.ledger.specs.Questions.{sum_of_all}
 
 -- a refused record: its number, and that of the refusal
 abbrev pub refusal_text : Refusal → List ℕ
-refusal_text r = codes "refused " ++ (decimal r.number ++ (codes " " ++ decimal (journal_values r.fault).0))
+refusal_text r =
+    codes "refused " ++ (decimal r.number ++ (codes " " ++ decimal (journal_values r.fault).0))
 
 -- the names of the fields of a line's row
 abbrev pub header : List ℕ
@@ -18,7 +20,8 @@ header = codes "no month item therms millicents"
 -- a line: its number, its month, its item, its therms and its money
 abbrev pub line_text : ℕ → Line → List ℕ
 line_text k l =
-    decimal k ++ (codes " " ++ (decimal (heading_month l.heading) ++ (codes " " ++ (decimal (heading_item l.heading) ++
+    decimal k ++ (codes " " ++ (decimal (heading_month l.heading) ++ (codes " " ++
+    (decimal (heading_item l.heading) ++
     (codes " " ++ (signed_decimal (therms_on l) ++ (codes " " ++ signed_decimal (money_on l))))))))
 
 -- what all lines add up to in money
@@ -37,7 +40,8 @@ lines_text k (l ∷ ls) = line_text k l ++ (codes "\n" ++ lines_text (k + 1) ls)
 
 -- the header, the lines, and last their sum
 abbrev pub account_text : List Line → List ℕ
-account_text lines = header ++ (codes "\n" ++ (lines_text 1 lines ++ (sum_text (sum_of_all lines) ++ codes "\n")))
+account_text lines =
+    header ++ (codes "\n" ++ (lines_text 1 lines ++ (sum_text (sum_of_all lines) ++ codes "\n")))
 
 -- what was refused, and then the account
 abbrev pub played_text : List Refusal → List Line → List ℕ

@@ -13,7 +13,8 @@ use std::fmt;
 
 // A row for each refusal, in order.
 fn write_refusals(text: &mut String, refusals: &[Refusal]) -> Result<(), fmt::Error>
-    ensures { OnOk result (string_bytes text.new ≡ string_bytes text.old ++ refusals_text refusals.now) }
+    ensures { OnOk result (string_bytes text.new ≡
+        string_bytes text.old ++ refusals_text refusals.now) }
 {
     for refusal in refusals {
         writeln!(text, "{}", RefusalRow(*refusal))?;
@@ -23,7 +24,8 @@ fn write_refusals(text: &mut String, refusals: &[Refusal]) -> Result<(), fmt::Er
 
 // A row for each line of an account, in order. Each number up to the count has its line.
 fn write_lines<S: Schedule>(text: &mut String, account: &Account<S>) -> Result<(), fmt::Error>
-    ensures { OnOk result (string_bytes text.new ≡ string_bytes text.old ++ lines_text 1 account.now.state.lines) }
+    ensures { OnOk result (string_bytes text.new ≡
+        string_bytes text.old ++ lines_text 1 account.now.state.lines) }
 {
     for index in 0..account.line_count() {
         let number = index + 1;
@@ -35,7 +37,8 @@ fn write_lines<S: Schedule>(text: &mut String, account: &Account<S>) -> Result<(
 
 // The header, a row for each line, and their sum.
 fn write_account<S: Schedule>(text: &mut String, account: &Account<S>) -> Result<(), fmt::Error>
-    ensures { OnOk result (string_bytes text.new ≡ string_bytes text.old ++ account_text account.now.state.lines) }
+    ensures { OnOk result (string_bytes text.new ≡
+        string_bytes text.old ++ account_text account.now.state.lines) }
 {
     writeln!(text, "no month item therms millicents")?;
     write_lines(text, account)?;

@@ -32,7 +32,8 @@ impl fmt::Display for LineRow {
     }
 }
 
-// A refused record: a type of our own, since the refusal is another crate's and its words are this program's.
+// A refused record: a type of our own, since the refusal is another crate's and its words are this
+// program's.
 #[derive(Clone, Copy)]
 pub struct RefusalRow(pub Refusal);
 

@@ -1,0 +1,12 @@
+//! The limits of the input, which are proved to be those that were laid down.
+ghost use Rattle.std.specs.Prelude.{◌≡◌, length};
+ghost use Rattle.gas.specs.Worked.{IsAsExpected, limits};
+
+/// How many limits of days, months, rates, shares and amounts are those that were laid down
+/// (`docs/TARIFF.md`).
+pub fn worked_limits() -> u8
+    ensures count { result ≡ length limits }
+    ensures expected { IsAsExpected limits }
+{
+    7
+}
