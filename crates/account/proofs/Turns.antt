@@ -3,7 +3,6 @@ use Rattle.std.proofs.Common.{◌≡◌, ℕ, ◌+◌, ◌*◌, ◌/◌, ◌<◌
 use Rattle.ledger.specs.declared.faults.AccountFault.{AccountFault}
 use Rattle.ledger.specs.Calls.{State}
 use Rattle.gas.specs.Tariffs.{Tariff}
-
 use Rattle.ledger.specs.Runs.{History, Run, left_by, refusal_by}
 use Rattle.ledger.proofs.Law.{runs_add_up}
 use Rattle.journal.specs.declared.faults.ReadFault.{ReadFault}

@@ -12,7 +12,6 @@ use Rattle.ledger.specs.Calls.{by_account, closing, outcome, tests, with_lines}
 use Rattle.ledger.specs.Days.{is_complete}
 use Rattle.ledger.specs.Due.{lines_due_in}
 use Rattle.gas.specs.Tariffs.{Tariff}
-
 use Rattle.ledger.specs.Year.{Standing, is_opened}
 use Rattle.book.specs.declared.year.MeterYear.{MeterYear}
 use Rattle.book.specs.Books.{Contents, state_of, with_closings}

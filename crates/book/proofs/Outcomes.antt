@@ -14,7 +14,6 @@ use Rattle.ledger.specs.Calls.{Call, State, Tests, by_account, correction, day_i
 use Rattle.ledger.specs.Days.{Places, place_of}
 use Rattle.ledger.specs.Due.{lines_due_in}
 use Rattle.gas.specs.Tariffs.{Tariff}
-
 use Rattle.ledger.specs.Year.{Opening, Standing, Year, is_opened}
 use Rattle.book.specs.Books.{Contents, state_of, with_days}
 use Rattle.book.specs.declared.year.MeterYear.{MeterYear}

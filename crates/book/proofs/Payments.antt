@@ -11,7 +11,6 @@ use Rattle.ledger.specs.declared.lines.TheConstants.{MOST_LINES, MOST_PAID}
 use Rattle.ledger.specs.Calls.{outcome, payment, tests}
 use Rattle.ledger.specs.Headings.{line_of}
 use Rattle.gas.specs.Tariffs.{Tariff}
-
 use Rattle.ledger.specs.Year.{Standing, is_opened}
 use Rattle.book.specs.declared.year.MeterYear.{MeterYear}
 use Rattle.book.specs.Books.{Contents, state_of, with_line}

@@ -7,7 +7,6 @@ use Rattle.ledger.specs.declared.lines.Line.{Line}
 use Rattle.ledger.specs.Calls.{by_account, outcome, settling, tests, with_lines}
 use Rattle.ledger.specs.Due.{lines_due_in}
 use Rattle.gas.specs.Tariffs.{Tariff}
-
 use Rattle.ledger.specs.Year.{Opening, Settlement, running, settled}
 use Rattle.book.specs.declared.year.MeterYear.{MeterYear}
 use Rattle.book.specs.Books.{Contents, state_of}

@@ -1,6 +1,16 @@
 -- The days of the months of a gas year, which begins in November.
 use Rattle.std.specs.Prelude.{
-  ℕ, Bool, true, false, if◌then◌else◌, ◌||◌, List, [], ◌∷◌, ◌==◌, slice_index
+  ℕ,
+  Bool,
+  true,
+  false,
+  if◌then◌else◌,
+  ◌||◌,
+  List,
+  [],
+  ◌∷◌,
+  ◌==◌,
+  slice_index,
 }
 
 -- November to October of a common year

@@ -2,7 +2,15 @@
 use Rattle.std.specs.Prelude.{ℕ}
 use Rattle.gas.specs.declared.faults.InputFault.{InputFault}
 use Rattle.gas.specs.declared.faults.InputFault.TheVariants.{
-  Month, Day, DayKind, Mark, Quantity, Share, Payment, GasYear, DayCount
+  Month,
+  Day,
+  DayKind,
+  Mark,
+  Quantity,
+  Share,
+  Payment,
+  GasYear,
+  DayCount,
 }
 use Rattle.gas.specs.declared.items.PriceValues.{PriceValues}
 use Rattle.gas.specs.declared.items.ScheduleFault.{ScheduleFault}

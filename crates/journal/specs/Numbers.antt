@@ -4,7 +4,20 @@
 -- widths
 -- `low_bytes`, the bytes of a number, and `row_bytes`, those of a row of numbers of given widths
 use Rattle.std.specs.Prelude.{
-  ℕ, zero, suc, ◌+◌, ◌*◌, ◌/◌, ◌%◌, ◌^◌, ◌<◌, List, [], ◌∷◌, ◌++◌, slice_index
+  ℕ,
+  zero,
+  suc,
+  ◌+◌,
+  ◌*◌,
+  ◌/◌,
+  ◌%◌,
+  ◌^◌,
+  ◌<◌,
+  List,
+  [],
+  ◌∷◌,
+  ◌++◌,
+  slice_index,
 }
 use Rattle.std.specs.List.{AllZip}
 

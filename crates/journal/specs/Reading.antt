@@ -5,8 +5,26 @@
 -- `answer` and `after`, what a reader at a offset answers, and where it then stands
 -- `Gives`, what a reader gives of the whole rest of a journal
 use Rattle.std.specs.Prelude.{
-  ◌≡◌, ℕ, ◌+◌, Bool, if◌then◌else◌, List, [], ◌∷◌, length, drop, Some, None, Ok, Err, Option,
-  Result, sum, ◌==◌, nat_le, slice_index
+  ◌≡◌,
+  ℕ,
+  ◌+◌,
+  Bool,
+  if◌then◌else◌,
+  List,
+  [],
+  ◌∷◌,
+  length,
+  drop,
+  Some,
+  None,
+  Ok,
+  Err,
+  Option,
+  Result,
+  sum,
+  ◌==◌,
+  nat_le,
+  slice_index,
 }
 use Rattle.std.specs.Int.{is_in_range}
 use Rattle.std.specs.Result.{result_map_both}

@@ -1,6 +1,19 @@
 -- The two round trips between records and bytes.
 use Rattle.std.specs.Prelude.{
-  ◌≡◌, ℕ, ◌+◌, List, ◌++◌, length, take, drop, Some, Ok, IfOk, IfSome, Option, Result
+  ◌≡◌,
+  ℕ,
+  ◌+◌,
+  List,
+  ◌++◌,
+  length,
+  take,
+  drop,
+  Some,
+  Ok,
+  IfOk,
+  IfSome,
+  Option,
+  Result,
 }
 use Rattle.journal.specs.declared.faults.ReadFault.{ReadFault}
 use Rattle.journal.specs.declared.kinds.Located.{Located}
@@ -27,6 +40,6 @@ abbrev pub ReadsBack : Record → List ℕ → Type 0
 ReadsBack r written =
     (before rest : List ℕ)
     → (answer_at (before ++ (written ++ rest)) (length before) ≡
-      Ok (Some (record { offset = length before; «record» = r })))
+    Ok (Some (record { offset = length before; «record» = r })))
     × (offset_after (before ++ (written ++ rest)) (length before) ≡
-      length before + length written)
+    length before + length written)

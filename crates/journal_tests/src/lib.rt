@@ -18,7 +18,20 @@ mod tests {
 
     const OPEN_BYTES: &[u8] = b"\x01\x01\x89\x00\x02\x0b";
 
-    const DAY: Day = Day { month: 11, day: 31, numbers: DayNumbers { kind: 3, curtailed: 1, nomination: 0x0403_0201, receipts: 200_000, reading: 0x0100_0000, after_notice: 0xffff_ffff, supply_cost: 256, variance_rate: 65_536 } };
+    const DAY: Day = Day {
+        month: 11,
+        day: 31,
+        numbers: DayNumbers {
+            kind: 3,
+            curtailed: 1,
+            nomination: 0x0403_0201,
+            receipts: 200_000,
+            reading: 0x0100_0000,
+            after_notice: 0xffff_ffff,
+            supply_cost: 256,
+            variance_rate: 65_536,
+        },
+    };
 
     const POST: Record = Record::Post { day: DAY };
 
@@ -31,10 +44,13 @@ mod tests {
         b"\x03\x0b\x1f\x03\x01\x01\x02\x03\x04\x40\x0d\x03\x00\x00\x00\x00\x01\xff\xff\xff\xff\x00\x01\x00\x00\x00\x00\x01\x00";
 
     const CLOSE: Record = Record::Close {
-        month: 0, numbers: ClosingNumbers {
-        index: 30_000,
-        interruptible: 1_000,
-        firm: 2_000_000 } };
+        month: 0,
+        numbers: ClosingNumbers {
+            index: 30_000,
+            interruptible: 1_000,
+            firm: 2_000_000,
+        },
+    };
 
     const CLOSE_BYTES: &[u8] = b"\x04\x00\x30\x75\x00\x00\xe8\x03\x00\x00\x80\x84\x1e\x00";
 

@@ -240,10 +240,10 @@ mod months {
 
 #[cfg(test)]
 mod edges {
+    use classes::{FirmInterruptible, RateClass};
     use gas::{ClosingNumbers, DayNumbers, DayRecord, Month, Pipeline, Totals, TotalsNumbers};
     use pipelines::Northern;
     use std::test::Fail;
-    use classes::{FirmInterruptible, RateClass};
 
     fn day(
         kind: u8,
@@ -315,11 +315,11 @@ mod edges {
 
 #[cfg(test)]
 mod terms {
+    use classes::FirmInterruptible;
     use gas::{InputFault, Millicents, Month, PerMille, Rate};
     use pipelines::{Tolerance, ToleranceNumbers};
     use riders::{GasYear, weather_rate};
     use std::test::Fail;
-    use classes::FirmInterruptible;
 
     const TOLERANCE: ToleranceNumbers = ToleranceNumbers {
         day: 100,
@@ -331,9 +331,7 @@ mod terms {
 
     // The number of the refusal of a tolerance pipeline, if it is refused.
     fn refusal(numbers: ToleranceNumbers) -> Option<u8> {
-        Tolerance::try_from(numbers)
-            .err()
-            .map(InputFault::number)
+        Tolerance::try_from(numbers).err().map(InputFault::number)
     }
 
     #[test]

@@ -2,11 +2,22 @@
 ghost use Rattle.std.specs.Prelude.{◌≡◌, ◌++◌, Ok, IfOk, OnOk, string_bytes};
 ghost use Rattle.gas.specs.Facts.{checked_facts, facts_of};
 ghost use Rattle.prices.specs.Months.{
-    Grows, PrintsAll, PrintsFull, PrintsMixed, PrintsSpring, PrintsStacked
+  Grows,
+  PrintsAll,
+  PrintsFull,
+  PrintsMixed,
+  PrintsSpring,
+  PrintsStacked,
 };
 ghost use Rattle.prices.specs.Cases.{
-    dual_fuel_text, firm_and_tolerance_text, mixed_text, refusals_text, riders_on_riders_text,
-    riders_text, seasons_text, stacks_text
+  dual_fuel_text,
+  firm_and_tolerance_text,
+  mixed_text,
+  refusals_text,
+  riders_on_riders_text,
+  riders_text,
+  seasons_text,
+  stacks_text,
 };
 
 use crate::days::Pattern;
@@ -15,12 +26,12 @@ use crate::terms::{
     AFFORDABILITY, DEAR_AFFORDABILITY, FIRM, FRANCHISE, SECOND_AFFORDABILITY, SECOND_FRANCHISE,
     TOLERANCE, WEATHER, large, small,
 };
+use classes::{Class, SmallDualFuel};
 use gas::{ClosingNumbers, DayKind, DayRecord, Facts, MonthNumbers, Therms};
 use pipelines::Northern;
 use riders::{Interim, Rider};
 use std::alloc::Global;
 use std::fmt;
-use classes::{Class, SmallDualFuel};
 
 // A November with an increase in force, in which the fifth is the gas year's first unauthorized
 // day.

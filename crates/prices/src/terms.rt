@@ -2,10 +2,10 @@
 ghost use Rattle.std.specs.Prelude.{◌≡◌};
 ghost use Rattle.prices.specs.Cases.{large, small};
 
+use classes::{Class, FirmInterruptible, LargeDualFuel, SmallDualFuel};
 use gas::{PerMille, Rate, Schedule, Therms};
 use pipelines::{MonthTerms, Northern, Tolerance};
 use riders::{Affordability, Franchise, GasYear, Weather};
-use classes::{Class, FirmInterruptible, LargeDualFuel, SmallDualFuel};
 
 pub const TOLERANCE: Tolerance = Tolerance {
     day: 4,

@@ -61,12 +61,11 @@ impl fmt::Display for Described {
             Record::Correct { day } => write!(f, "correct{}", Named(day)),
             Record::Close {
                 month,
-                numbers:
-                    ClosingNumbers {
-                        index,
-                        interruptible,
-                        firm,
-                    },
+                numbers: ClosingNumbers {
+                    index,
+                    interruptible,
+                    firm,
+                },
             } => write!(
                 f,
                 "close month {month} index {index} interruptible {interruptible} firm {firm}"

@@ -4,7 +4,6 @@ use Rattle.account.specs.declared.faults.Refusal.{Refusal}
 use Rattle.account.specs.Playing.{Played}
 use Rattle.ledger.specs.Calls.{State}
 use Rattle.gas.specs.Tariffs.{Tariff}
-
 use Rattle.ledger.specs.Runs.{new_state}
 use Rattle.report.specs.Outputs.{PrintsPlayed}
 use Rattle.report.specs.Tariffs.{fixed_tariff}

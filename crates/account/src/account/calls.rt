@@ -19,8 +19,7 @@ impl<S: Schedule> Account<S> {
     /// opened, with 3 the interim months, with 6 the leap mark, and with 8 the increase
     /// (`docs/ACCOUNT.md`).
     pub fn open(&mut self, leap: u8, increase: u16, first: u8, last: u8) -> Result<(), AccountFault>
-        ensures {
-            Called S.tariff self.old
+        ensures { Called S.tariff self.old
             (opening leap (record { increase = increase; first = first; last = last }))
             result self.new }
     {
@@ -88,8 +87,7 @@ impl<S: Schedule> Account<S> {
     /// numbers, with 26 one that is settled, with 27 an open interim month, and then with 28 and 29
     /// (`docs/ACCOUNT.md`).
     pub fn settle(&mut self, final_increase: u16, interest: u16) -> Result<(), AccountFault>
-        ensures {
-            Called S.tariff self.old
+        ensures { Called S.tariff self.old
             (settling (record { final_increase = final_increase; interest = interest }))
             result self.new }
     {

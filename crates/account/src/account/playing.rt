@@ -1,7 +1,6 @@
 //! A whole journal played into an account.
 ghost use Rattle.std.specs.Prelude.{◌≡◌, IfOk, OnErr, vec_items};
 ghost use Rattle.gas.specs.Tariffs.{Tariff};
-
 ghost use Rattle.ledger.specs.Runs.{RunsAddUp, left_by, refusal_by};
 ghost use Rattle.journal.specs.Reading.{answer_at, offset_after};
 ghost use Rattle.account.specs.Journals.{call_of, entered_at, read_at};

@@ -19,8 +19,7 @@ impl<S: Schedule> Account<S> {
         ensures is { result ≡ length self.now.state.lines }
         ensures room { length self.now.state.lines ≤ MOST_LINES }
         ensures few { length self.now.state.year.closings ≤ 12 }
-        ensures complete {
-            IsComplete self.now.state.year.leap self.now.state.year.days
+        ensures complete { IsComplete self.now.state.year.leap self.now.state.year.days
             self.now.state.year.closings }
     {
         self.book.line_count()

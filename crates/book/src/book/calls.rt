@@ -4,7 +4,6 @@ ghost use Rattle.std.specs.Prelude.{◌≡◌, true, OnErr};
 ghost use Rattle.gas.specs.Inputs.{answer_by};
 ghost use Rattle.ledger.specs.Calls.{closing, correction, outcome, payment, posting, settling};
 ghost use Rattle.gas.specs.Tariffs.{Tariff};
-
 ghost use Rattle.ledger.specs.Year.{Standing, is_opened, running, settled};
 ghost use Rattle.book.specs.Terms.{opening_numbers, settlement_numbers, standing_of};
 

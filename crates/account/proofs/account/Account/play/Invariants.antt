@@ -1,7 +1,6 @@
 use Rattle.std.proofs.Common.{◌≡◌, vec_len}
 use Rattle.std.specs.Vec.{vec_capacity}
 use Rattle.gas.specs.Tariffs.{Tariff}
-
 use Rattle.account.proofs.Turns.{Sofar}
 use Rattle.account.proofs.account.Account.play.Given as goal
 
