@@ -1,4 +1,4 @@
-// A record of a journal does what its call does.
+//! A record of a journal does what its call does.
 use crate::fixtures::{SMALL, answers, call, closing, correction, even, posting, written};
 use account::Account;
 use gas::{DayNumbers, Schedule};
@@ -29,7 +29,8 @@ fn both<S: Schedule>(
     alike(rt, named, entered);
 }
 
-// Calls of each kind, accepted and refused: before the opening, before the closing, behind it, and behind the settlement.
+// Calls of each kind, accepted and refused: before the opening, before the closing, behind it, and
+// behind the settlement.
 #[test]
 fn a_year_of_calls(rt: HostRuntime) {
     let mut named = Account::new(Interim.on(SMALL));

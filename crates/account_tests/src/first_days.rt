@@ -1,4 +1,6 @@
-// The gas year's first unauthorized day. Each of its unauthorized therms costs the day's supply cost and 300,000 millicents, one of any other day the supply cost and 600,000. All figures are by hand.
+//! The gas year's first unauthorized day. Each of its unauthorized therms costs the day's supply
+//! cost and 300,000 millicents, one of any other day the supply cost and 600,000. All figures are
+//! by hand.
 use crate::fixtures::{
     OPEN, SMALL, Written, accepts, closing, correction, ends_with, even, posting,
 };
@@ -7,7 +9,8 @@ use gas::{DayNumbers, Schedule};
 use journal::Day;
 use std::process::Abort;
 
-// A curtailed day on which 10 therms were nominated, received and used, some of them after the notice.
+// A curtailed day on which 10 therms were nominated, received and used, some of them after the
+// notice.
 fn curtailed(month: u8, day: u8, after_notice: u32, supply_cost: u32) -> Day {
     Day {
         numbers: DayNumbers {
@@ -20,7 +23,8 @@ fn curtailed(month: u8, day: u8, after_notice: u32, supply_cost: u32) -> Day {
     }
 }
 
-// No therms of November are unauthorized: on the first all were used before the notice, and the second is not curtailed.
+// No therms of November are unauthorized: on the first all were used before the notice, and the
+// second is not curtailed.
 fn november(day: u8) -> Day {
     match day {
         1 => curtailed(0, 1, 0, 1_000),

@@ -1,4 +1,4 @@
-// What the tests share: schedules, days, and calls that are made and looked at.
+//! What the tests share: schedules, days, and calls that are made and looked at.
 use account::Account;
 use classes::{Class, SmallDualFuel};
 use gas::{ClosingNumbers, DayNumbers, Rate, Schedule, Therms};
@@ -9,8 +9,10 @@ use riders::Affordability;
 use std::ops::Range;
 use std::process::Abort;
 
+/// Small dual fuel on Northern.
 pub type Small = Class<SmallDualFuel, Northern>;
 
+/// Small dual fuel on Northern, at 36,500 therms a year.
 pub const SMALL: Small = Class {
     terms: SmallDualFuel {
         annual: Therms { count: 36_500 },
@@ -18,12 +20,12 @@ pub const SMALL: Small = Class {
     pipeline: Northern,
 };
 
-// At the highest rate: a month of 5,000,000 therms costs just 10^13.
+/// At the highest rate: a month of 5,000,000 therms costs just 10^13.
 pub const DEAR: Affordability = Affordability {
     rate: Rate { price: 2_000_000 },
 };
 
-// In a common year with no interim increase, with November the one interim month.
+/// In a common year with no interim increase, with November the one interim month.
 pub const OPEN: Record = Record::Open {
     leap: 0,
     increase: 0,
@@ -31,7 +33,7 @@ pub const OPEN: Record = Record::Open {
     last: 0,
 };
 
-// A normal day on which nothing flowed.
+/// A normal day on which nothing flowed.
 pub const IDLE: DayNumbers = DayNumbers {
     kind: 0,
     curtailed: 0,
@@ -43,14 +45,14 @@ pub const IDLE: DayNumbers = DayNumbers {
     variance_rate: 0,
 };
 
-// It is the first of November.
+/// It is the first of November.
 pub const QUIET: Day = Day {
     month: 0,
     day: 1,
     numbers: IDLE,
 };
 
-// A day that is in balance: so many therms were nominated, received and used.
+/// A day that is in balance: so many therms were nominated, received and used.
 pub fn even(month: u8, day: u8, therms: u32) -> Day {
     Day {
         month,
@@ -64,15 +66,17 @@ pub fn even(month: u8, day: u8, therms: u32) -> Day {
     }
 }
 
+/// The posting of a day.
 pub fn posting(day: Day) -> Record {
     Record::Post { day }
 }
 
+/// The correction of a day.
 pub fn correction(day: Day) -> Record {
     Record::Correct { day }
 }
 
-// The closing of a month at the rates of the worked November.
+/// The closing of a month at the rates of the worked November.
 pub fn closing(month: u8) -> Record {
     Record::Close {
         month,
@@ -84,7 +88,7 @@ pub fn closing(month: u8) -> Record {
     }
 }
 
-// The call that a record is, made by its name.
+/// The call that a record is, made by its name.
 pub fn call<S: Schedule>(account: &mut Account<S>, record: Record) -> Result<(), AccountFault> {
     match record {
         Record::Open {
@@ -104,7 +108,7 @@ pub fn call<S: Schedule>(account: &mut Account<S>, record: Record) -> Result<(),
     }
 }
 
-// How many lines there are, what they add up to, and the open therms.
+/// How many lines there are, what they add up to, and the open therms.
 pub fn answers<S: Schedule>(account: &Account<S>) -> (usize, i64, i64) {
     (
         account.line_count(),
@@ -113,10 +117,10 @@ pub fn answers<S: Schedule>(account: &Account<S>) -> (usize, i64, i64) {
     )
 }
 
-// A line as it stands in docs/LEDGER.md: its month, its item, therms and millicents.
+/// A line as it stands in docs/LEDGER.md: its month, its item, therms and millicents.
 pub type Written = (u8, u8, i64, i64);
 
-// The line of a number, or the number of the refusal.
+/// The line of a number, or the number of the refusal.
 pub fn written<S: Schedule>(account: &Account<S>, number: usize) -> Result<Written, u8> {
     let line = account.line(number).map_err(AccountFault::number)?;
     let heading = line.heading;
@@ -128,7 +132,7 @@ pub fn written<S: Schedule>(account: &Account<S>, number: usize) -> Result<Writt
     ))
 }
 
-// The last lines of the account are these.
+/// The last lines of the account are these.
 pub fn ends_with<S: Schedule>(rt: &impl Abort, account: &Account<S>, lines: &[Written]) {
     let count = account.line_count();
     assert!(rt; lines.len() <= count);
@@ -140,11 +144,13 @@ pub fn ends_with<S: Schedule>(rt: &impl Abort, account: &Account<S>, lines: &[Wr
     }
 }
 
+/// The call that a record is, is accepted.
 pub fn accepts<S: Schedule>(rt: &impl Abort, account: &mut Account<S>, record: Record) {
     assert_eq!(rt; call(account, record), Ok(()), "{record:?}");
 }
 
-// By its name and as a record, the call is refused with that number, and the account answers as before.
+/// By its name and as a record, the call is refused with that number, and the account answers as
+/// before.
 pub fn refuses<S: Schedule>(rt: &impl Abort, account: &mut Account<S>, record: Record, number: u8) {
     let before = answers(account);
     let named = call(account, record);
@@ -158,14 +164,14 @@ pub fn refuses<S: Schedule>(rt: &impl Abort, account: &mut Account<S>, record: R
     assert_eq!(rt; answers(account), before, "{record:?}");
 }
 
-// Posts some days of a month, each with the same numbers.
+/// Posts some days of a month, each with the same numbers.
 pub fn post<S: Schedule>(rt: &impl Abort, account: &mut Account<S>, days: Range<u8>, like: Day) {
     for day in days {
         accepts(rt, account, posting(Day { day, ..like }));
     }
 }
 
-// Takes in so many payments of one millicent, each of which is a line.
+/// Takes in so many payments of one millicent, each of which is a line.
 pub fn pay<S: Schedule>(rt: &impl Abort, account: &mut Account<S>, count: usize) {
     for _ in 0..count {
         accepts(rt, account, Record::Pay { amount: 1 });

@@ -1,4 +1,5 @@
-// Tests of an account: refusals in their order, limits, prices past theirs, room for lines, worked figures, questions, records as calls, and whole journals.
+//! Tests of an account: refusals in their order, limits, prices past theirs, room for lines, worked
+//! figures, questions, records as calls, and whole journals.
 #![tactic(auto)]
 
 #[cfg(test)]

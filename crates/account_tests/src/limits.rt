@@ -1,4 +1,4 @@
-// The limits of what is told, met and passed by one, and the largest numbers that there are.
+//! The limits of what is told, met and passed by one, and the largest numbers that there are.
 use crate::fixtures::{
     OPEN, QUIET, SMALL, accepts, closing, correction, even, post, posting, refuses, written,
 };
@@ -269,7 +269,8 @@ const PAST_ENDS: [(u8, u8); 11] = [
     (11, 32),
 ];
 
-// All days of all months can be posted and none past an end; with them all twelve months are closed, and then none can be.
+// All days of all months can be posted and none past an end; with them all twelve months are
+// closed, and then none can be.
 fn whole_year(rt: &impl Abort, leap: u8, past_february: u8) {
     let mut account = Account::new(SMALL);
     accepts(rt, &mut account, opening(leap, 0, 0, 11));

@@ -1,4 +1,5 @@
-// The worked November of docs/HISTORY.md on the code, by calls and by records, and a correction behind it. The figures are that page's.
+//! The worked November of docs/HISTORY.md on the code, by calls and by records, and a correction
+//! behind it. The figures are that page's.
 use crate::fixtures::{
     IDLE, QUIET, SMALL, Written, answers, closing, ends_with, even, post, posting,
 };
@@ -9,10 +10,12 @@ use ledger::AccountFault;
 use riders::{Franchise, Interim, Rider};
 use std::test::Fail;
 
+/// The franchise of the worked November.
 pub const FRANCHISE: Franchise = Franchise {
     share: PerMille { share: 50 },
 };
 
+/// Its lines in order.
 pub const LINES: [Written; 11] = [
     (0, 1, 0, 15_550_000),
     (0, 2, 0, 37_263_000),
@@ -70,7 +73,7 @@ fn by_calls(rt: HostRuntime) -> Result<(), Fail> {
     Ok(())
 }
 
-// Its records beside the posts and the closing.
+/// Its records beside the posts and the closing.
 pub const OPENING: Record = Record::Open {
     leap: 0,
     increase: 137,
@@ -78,6 +81,7 @@ pub const OPENING: Record = Record::Open {
     last: 0,
 };
 
+/// Its correction of the last day.
 pub const CORRECTION: Record = Record::Correct {
     day: Day {
         day: 30,
@@ -91,6 +95,7 @@ pub const CORRECTION: Record = Record::Correct {
     },
 };
 
+/// Its settlement.
 pub const SETTLING: Record = Record::Settle {
     final_increase: 100,
     interest: 20,
@@ -116,7 +121,11 @@ fn by_records(rt: HostRuntime) -> Result<(), Fail> {
     Ok(())
 }
 
-// What is written where day 29 is read at 80, too. By hand: of 2,970 therms item 2 is 36,890,370; item 4 is 30 × 6,570, and item 5 −30 × 31,000. At 137 item 9 is 7,184,331 and item 10 2,944,590, at 100 they are 5,244,037 and 2,847,575. So the refund is 61,836,391 − 59,799,082 = 2,037,309, and the interest 40,746. The functions of figures/history.py, with this call behind the others, write the same lines.
+// What is written where day 29 is read at 80, too. By hand: of 2,970 therms item 2 is 36,890,370;
+// item 4 is 30 × 6,570, and item 5 −30 × 31,000. At 137 item 9 is 7,184,331 and item 10 2,944,590,
+// at 100 they are 5,244,037 and 2,847,575. So the refund is 61,836,391 − 59,799,082 = 2,037,309,
+// and the interest 40,746. The functions of figures/history.py, with this call behind the others,
+// write the same lines.
 const CORRECTED: [Written; 7] = [
     (0, 2, 0, -248_420),
     (0, 4, 0, 131_400),
@@ -144,7 +153,9 @@ fn a_correction_moves_refund_and_interest(rt: HostRuntime) -> Result<(), Fail> {
     Ok(())
 }
 
-// With December the one interim month and no franchise rider. By hand, of 31 days at 100 therms: item 2 is 38,505,100, and item 9 137 per mille of 54,055,100, which at 100 per mille is 5,405,510. The refund is 2,000,039. November has no item 9.
+// With December the one interim month and no franchise rider. By hand, of 31 days at 100 therms:
+// item 2 is 38,505,100, and item 9 137 per mille of 54,055,100, which at 100 per mille is
+// 5,405,510. The refund is 2,000,039. November has no item 9.
 const DECEMBER: [Written; 7] = [
     (0, 1, 0, 15_550_000),
     (0, 2, 0, 37_263_000),
@@ -170,7 +181,8 @@ fn an_increase_is_of_the_interim_months_alone(rt: HostRuntime) -> Result<(), Fai
     Ok(())
 }
 
-// Nothing is charged where the final increase is the higher one. A settled account goes on: with a December of no interim month, a payment, and a correction after which there is still no refund.
+// Nothing is charged where the final increase is the higher one. A settled account goes on: with a
+// December of no interim month, a payment, and a correction after which there is still no refund.
 #[test]
 fn a_higher_final_increase_costs_nothing(rt: HostRuntime) -> Result<(), Fail> {
     let mut account = Account::new(Interim.on(SMALL));

@@ -1,4 +1,4 @@
-// Prices past 10^13, refused with 28 and with the month, the item and the layer.
+//! Prices past 10^13, refused with 28 and with the month, the item and the layer.
 use crate::fixtures::{
     DEAR, OPEN, QUIET, SMALL, accepts, call, closing, correction, even, post, refuses,
 };

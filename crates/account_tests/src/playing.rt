@@ -1,4 +1,4 @@
-// A whole journal of bytes, played into an account.
+//! A whole journal of bytes, played into an account.
 use crate::fixtures::{SMALL, answers, closing, ends_with, even, posting};
 use crate::november::{CORRECTION, FRANCHISE, LINES, OPENING, SETTLING};
 use account::{Account, JournalFault};
@@ -35,7 +35,8 @@ fn an_empty_journal(rt: HostRuntime) -> Result<(), Fail> {
     Ok(())
 }
 
-// Payments of 5, of which the first comes before the opening and the last is cut off after two bytes; a second opening; and a settlement before November is closed.
+// Payments of 5, of which the first comes before the opening and the last is cut off after two
+// bytes; a second opening; and a settlement before November is closed.
 #[test]
 fn refused_records_are_passed_over(rt: HostRuntime) -> Result<(), Fail> {
     let mut account = Account::new(SMALL);
@@ -81,7 +82,8 @@ fn put(journal: &mut Vec<u8>, record: Record) -> Result<(), Fail> {
     Ok(())
 }
 
-// The journal of the worked November, with a correction of a day that is not posted yet and a second closing.
+// The journal of the worked November, with a correction of a day that is not posted yet and a
+// second closing.
 fn november(alloc: Global) -> Result<Vec<u8>, Fail> {
     let mut journal = Vec::new(alloc);
     put(&mut journal, OPENING)?;

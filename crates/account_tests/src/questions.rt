@@ -1,4 +1,4 @@
-// What an account answers to questions.
+//! What an account answers to questions.
 use crate::fixtures::{
     OPEN, SMALL, accepts, answers, closing, correction, ends_with, even, post, posting, written,
 };
@@ -63,7 +63,8 @@ fn of_a_peak_day(rt: HostRuntime) {
     assert_eq!(rt; peak(&account, 1), Ok(Some(31)));
 }
 
-// It is the reading that counts, and not the receipts or the nomination. Of equal ones either may be answered.
+// It is the reading that counts, and not the receipts or the nomination. Of equal ones either may
+// be answered.
 #[test]
 fn of_equal_peaks(rt: HostRuntime) {
     let mut account = Account::new(SMALL);

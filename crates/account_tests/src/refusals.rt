@@ -1,4 +1,5 @@
-// The refusals of each call in their order. A call begins with every fault that can go together, and loses the first of them at each step, until it is accepted.
+//! The refusals of each call in their order. A call begins with every fault that can go together,
+//! and loses the first of them at each step, until it is accepted.
 use crate::fixtures::{
     DEAR, IDLE, OPEN, QUIET, SMALL, accepts, closing, correction, even, pay, post, posting, refuses,
 };
@@ -57,7 +58,8 @@ const FAULTY_DAYS: [(Day, u8); 5] = [
     ),
 ];
 
-// An opening with a first interim month, and otherwise right but for the leap mark and the increase.
+// An opening with a first interim month, and otherwise right but for the leap mark and the
+// increase.
 fn opening(leap: u8, increase: u16, first: u8) -> Record {
     Record::Open {
         leap,
@@ -85,7 +87,8 @@ fn settling(final_increase: u16) -> Record {
     }
 }
 
-// Posts a November of 5,000,000 therms, which is as much as a schedule with the dear rider can price.
+// Posts a November of 5,000,000 therms, which is as much as a schedule with the dear rider can
+// price.
 fn post_november<S: Schedule>(rt: &impl Abort, account: &mut Account<S>) {
     post(rt, account, 1..26, even(0, 0, 200_000));
     post(rt, account, 26..31, QUIET);
@@ -159,7 +162,8 @@ fn a_closing(rt: HostRuntime) {
     refuses(&rt, &mut account, rated(0, 2_000_000), 29);
 }
 
-// The last step of the closing above, which can lose its fault in another account alone: no line is taken away.
+// The last step of the closing above, which can lose its fault in another account alone: no line is
+// taken away.
 #[test]
 fn a_closing_with_room(rt: HostRuntime) {
     let mut account = Account::new(DEAR.on(SMALL));
@@ -182,7 +186,8 @@ fn a_payment(rt: HostRuntime) {
     refuses(&rt, &mut account, Record::Pay { amount: 1 }, 29);
 }
 
-// 26 excludes 27, since what is settled has no open interim month: it is tested behind the settlement.
+// 26 excludes 27, since what is settled has no open interim month: it is tested behind the
+// settlement.
 #[test]
 fn a_settlement(rt: HostRuntime) {
     let mut account = Account::new(Interim.on(DEAR.on(SMALL)));
@@ -203,7 +208,8 @@ fn a_settlement(rt: HostRuntime) {
     refuses(&rt, &mut account, settling(1_000), 27);
     accepts(&rt, &mut account, closing(0));
     pay(&rt, &mut account, 1_020);
-    // the interim item would be past its limit; a lower increase, by which it is not, makes a refund, for which there is no room
+    // the interim item would be past its limit; a lower increase, by which it is not, makes a
+    // refund, for which there is no room
     refuses(&rt, &mut account, settling(1_000), 28);
     refuses(&rt, &mut account, settling(499), 29);
     accepts(&rt, &mut account, settling(500));

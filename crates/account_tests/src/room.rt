@@ -1,4 +1,4 @@
-// The room for 1,024 lines. A call just fills it, or is refused with 29 for one line too many.
+//! The room for 1,024 lines. A call just fills it, or is refused with 29 for one line too many.
 use crate::fixtures::{
     OPEN, SMALL, accepts, closing, correction, even, pay, post, posting, refuses,
 };
@@ -117,7 +117,8 @@ fn settling(final_increase: u16) -> Record {
     }
 }
 
-// Closes that November, which writes items 1, 2, 5 and 9. A refund and its interest are two lines more.
+// Closes that November, which writes items 1, 2, 5 and 9. A refund and its interest are two lines
+// more.
 fn close_november<S: Schedule>(rt: &impl Abort, account: &mut Account<S>) {
     post_november(rt, account);
     accepts(rt, account, closing(0));

@@ -1,4 +1,5 @@
-// Plays each journal of which the file is named as an argument, into a new account each, and prints what `lines` prints of it, under a row with the file's name.
+//! Plays each journal of which the file is named as an argument, into a new account each, and
+//! prints what `lines` prints of it, under a row with the file's name.
 #![tactic(auto)]
 
 mod entry;

@@ -1,4 +1,5 @@
-// Tests of the journal's reader and writer: damaged journals, tight buffers, and bytes put down by hand.
+//! Tests of the journal's reader and writer: damaged journals, tight buffers, and bytes put down by
+//! hand.
 #![tactic(auto)]
 
 #[cfg(test)]
@@ -76,7 +77,8 @@ mod tests {
         (SETTLE, SETTLE_BYTES),
     ];
 
-    // Cut at every length the bytes are refused and the reader stays; whole they give the record, and then the end.
+    // Cut at every length the bytes are refused and the reader stays; whole they give the record,
+    // and then the end.
     fn reads(rt: &impl Abort, record: Record, bytes: &[u8]) {
         for n in 1..bytes.len() {
             let mut reader = Reader::new(&bytes[0..n]);
@@ -96,7 +98,8 @@ mod tests {
         }
     }
 
-    // In a buffer of every length up to 40 the record is written just where it fits, and nothing behind it or after a refusal changes.
+    // In a buffer of every length up to 40 the record is written just where it fits, and nothing
+    // behind it or after a refusal changes.
     fn writes(rt: &impl Abort, record: Record, bytes: &[u8]) {
         let size = bytes.len();
         assert_eq!(rt; record.len(), size);

@@ -1,4 +1,5 @@
-// Plays a journal from standard input into an account, and prints what was refused, the lines, and their sum.
+//! Plays a journal from standard input into an account, and prints what was refused, the lines, and
+//! their sum.
 #![tactic(auto)]
 
 use journal::load;

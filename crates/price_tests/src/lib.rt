@@ -1,4 +1,5 @@
-// Tests of prices: refusals in their order, the worked edges on the code, and rounding at its limits.
+//! Tests of prices: refusals in their order, the worked edges on the code, and rounding at its
+//! limits.
 #![tactic(auto)]
 
 #[cfg(test)]
@@ -16,7 +17,8 @@ mod days {
         variance_rate: 2_000_000,
     };
 
-    // The number of the refusal, if the day is refused. One line for each type and its fault, here and below.
+    // The number of the refusal, if the day is refused. One line for each type and its fault, here
+    // and below.
     fn refusal(numbers: DayNumbers) -> Option<u8> {
         DayRecord::try_from(numbers).err().map(InputFault::number)
     }

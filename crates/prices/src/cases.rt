@@ -1,4 +1,4 @@
-// The cases: months of days on schedules.
+//! The cases: months of days on schedules.
 ghost use Rattle.std.specs.Prelude.{◌≡◌, ◌++◌, Ok, IfOk, OnOk, string_bytes};
 ghost use Rattle.gas.specs.Facts.{checked_facts, facts_of};
 ghost use Rattle.prices.specs.Months.{
@@ -284,7 +284,7 @@ fn stacked_months(text: &mut String, alloc: Global) -> anyhow::Result<()>
     Ok(())
 }
 
-// Everything that the program prints.
+/// Everything that the program prints (`docs/TARIFF.md`).
 pub fn output(alloc: Global) -> anyhow::Result<String>
     ensures { IfOk result (λ text. PrintsAll (string_bytes text)) }
 {

@@ -1,4 +1,4 @@
-// The days of the months that are priced.
+//! The days of the months that are priced.
 ghost use Rattle.std.specs.Prelude.{◌≡◌, ◌≤◌, map, IfOk};
 ghost use Rattle.gas.specs.Day.{kind_number, numbers_of};
 ghost use Rattle.prices.specs.Days.{full_day, idle_day, mixed_day};
@@ -8,7 +8,7 @@ use anyhow::Context;
 use gas::{DayKind, DayNumbers, DayRecord};
 use std::alloc::Global;
 
-// What the days of a month are like.
+/// What the days of a month are like (`docs/TARIFF.md`).
 #[derive(Clone, Copy)]
 pub enum Pattern {
     // of every kind, each fifth curtailed, with receipts about a base
@@ -81,8 +81,7 @@ impl Pattern {
         }
     }
 
-    // The days of a month in order. `1..=count` ends in two ways, each of which would have to be
-    // proved.
+    /// The first days of a month by the pattern, in order (`docs/TARIFF.md`).
     pub fn days(self, alloc: Global, count: u8) -> anyhow::Result<Vec<DayRecord>>
         requires { count ≤ 31 }
         ensures { IfOk result (λ days. map numbers_of days.items ≡ days_to self count) }

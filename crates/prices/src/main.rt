@@ -1,4 +1,4 @@
-// Prints what a fixed set of months costs on every class, pipeline and rider.
+//! Prints what a fixed set of months costs on every class, pipeline and rider.
 #![tactic(auto)]
 
 mod cases;

@@ -1,4 +1,4 @@
-// The row of one item.
+//! The row of one item.
 ghost use Rattle.std.specs.Prelude.{Some};
 ghost use Rattle.gas.specs.Inputs.{answer_by};
 ghost use Rattle.prices.specs.Rows.{answer_text};

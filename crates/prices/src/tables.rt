@@ -1,4 +1,4 @@
-// The rows of a month on a schedule.
+//! The rows of a month on a schedule.
 ghost use Rattle.std.specs.Prelude.{◌≡◌, ◌++◌, OnOk, codes, string_bytes};
 ghost use Rattle.gas.specs.Facts.{facts_of};
 ghost use Rattle.prices.specs.Cases.{case_text};
@@ -8,7 +8,7 @@ use crate::rows::Row;
 use gas::{Facts, Item, Schedule};
 use std::fmt;
 
-// The row above all others.
+/// The row above all others (`docs/TARIFF.md`).
 pub fn head(text: &mut String) -> Result<(), fmt::Error>
     ensures { OnOk result (string_bytes text.new ≡
         string_bytes text.old ++ (header ++ codes "\n")) }
@@ -41,7 +41,7 @@ fn rows<S: Schedule>(
     Ok(())
 }
 
-// A row for each item of a month.
+/// A row for each item of a month (`docs/TARIFF.md`).
 #[tactic(auto, unfolding(crate::specs::Cases::case_text))]
 pub fn table<S: Schedule>(
     text: &mut String,

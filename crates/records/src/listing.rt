@@ -1,4 +1,4 @@
-// The listing of a whole journal.
+//! The listing of a whole journal.
 ghost use Rattle.std.specs.Prelude.{IfOk, vec_items, string_bytes};
 ghost use Rattle.std.specs.Option.{option_map};
 ghost use Rattle.records.specs.Rows.{Lists, Writes};
@@ -28,7 +28,8 @@ fn list(alloc: Global, journal: &[u8]) -> Result<String, fmt::Error>
     Ok(text)
 }
 
-// All that the program writes of a journal, or of an input that was too long to be one.
+/// All that the program writes of a journal, or of an input that was too long to be one
+/// (`docs/JOURNAL.md`).
 pub fn output(alloc: Global, journal: Option<Vec<u8>>) -> Result<String, fmt::Error>
     ensures { IfOk result (λ text. Writes (option_map vec_items journal) (string_bytes text)) }
 {

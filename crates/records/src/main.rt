@@ -1,4 +1,4 @@
-// Lists a journal from standard input, a row for each record.
+//! Lists a journal from standard input, a row for each record.
 #![tactic(auto)]
 
 mod listing;

@@ -1,5 +1,5 @@
-// What `lines` prints of a journal: what was refused, the lines of the account that it makes, and
-// their sum.
+//! What `lines` prints of a journal: what was refused, the lines of the account that it makes, and
+//! their sum.
 #![tactic(auto)]
 
 mod printing;

@@ -1,4 +1,4 @@
-// All that the program prints.
+//! All that the program prints.
 ghost use Rattle.std.specs.Prelude.{◌≡◌, ◌++◌, OnOk, IfOk, string_bytes, vec_items};
 ghost use Rattle.std.specs.Option.{option_map};
 ghost use Rattle.report.specs.Outputs.{Prints, PrintsPlayed};
@@ -58,7 +58,8 @@ fn played(alloc: Global, journal: &[u8]) -> Result<String, fmt::Error>
     Ok(text)
 }
 
-// All that the program prints of a journal, or of an input that was too long to be one.
+/// All that the program prints of a journal, or of an input that was too long to be one
+/// (`docs/ACCOUNT.md`).
 pub fn output(alloc: Global, journal: Option<Vec<u8>>) -> Result<String, fmt::Error>
     ensures { IfOk result (λ text. Prints (option_map vec_items journal) (string_bytes text)) }
 {

@@ -1,4 +1,4 @@
-// The text of a line, and of a refusal.
+//! The text of a line, and of a refusal.
 ghost use Rattle.std.specs.Prelude.{Some};
 ghost use Rattle.report.specs.Rows.{line_text, refusal_text};
 
@@ -6,7 +6,7 @@ use account::Refusal;
 use ledger::Line;
 use std::fmt;
 
-// A line with its number, counted from 1.
+/// A line with its number, counted from 1 (`docs/ACCOUNT.md`).
 #[derive(Clone, Copy)]
 pub struct LineRow {
     pub number: usize,
@@ -32,8 +32,8 @@ impl fmt::Display for LineRow {
     }
 }
 
-// A refused record: a type of our own, since the refusal is another crate's and its words are this
-// program's.
+/// A refused record: a type of our own, since the refusal is another crate's and its words are this
+/// program's (`docs/ACCOUNT.md`).
 #[derive(Clone, Copy)]
 pub struct RefusalRow(pub Refusal);
 
