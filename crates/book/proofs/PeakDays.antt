@@ -1,5 +1,8 @@
 -- The peak day among the first places of a month.
-use Rattle.std.proofs.Common.{◌≡◌, ℕ, zero, suc, ◌+◌, ◌-◌, ◌≤◌, true, [], ◌∷◌, length, Some, None, Option, get_or, take, max, leb, refl, ap, subst, add-one, arith}
+use Rattle.std.proofs.Common.{
+  ◌≡◌, ℕ, zero, suc, ◌+◌, ◌-◌, ◌≤◌, true, [], ◌∷◌, length, Some, None, Option, get_or, take, max,
+  leb, refl, ap, subst, add-one, arith
+}
 use Rattle.std.specs.List.{flat_map, list_all, slice_get}
 use Rattle.std.specs.Option.{option_to_list}
 use Rattle.std.proofs.lemmas.Bool.{le-leb}
@@ -27,17 +30,25 @@ after_all [] = 0
 after_all (place ∷ places) = max (after place) (after_all places)
 
 -- one place more
-after_all_suc : (places : Places) (i : ℕ) → after_all (take (suc i) places) ≡ max (after_all (take i places)) (after_at (slice_get places i))
+after_all_suc :
+    (places : Places) (i : ℕ) →
+    after_all (take (suc i) places) ≡ max (after_all (take i places))
+      (after_at (slice_get places i))
 after_all_suc [] zero = refl
 after_all_suc [] (suc i) = refl
 after_all_suc (place ∷ places) zero = omega arith
 after_all_suc (place ∷ places) (suc i) = let rest = after_all_suc places i in omega arith
 
-pub after_all_more : (places : Places) (i : ℕ) → after_all (take (i + 1) places) ≡ max (after_all (take i places)) (after_at (slice_get places i))
+pub after_all_more :
+    (places : Places) (i : ℕ) →
+    after_all (take (i + 1) places) ≡ max (after_all (take i places))
+      (after_at (slice_get places i))
 after_all_more places i = rw add-one (after_all_suc places i)
 
 -- no reading is above one that no place exceeds
-pub below_after : (r : ℕ) (places : Places) → after_all places ≤ r + 1 → list_all (λ d. leb (reading_of d) r) (flat_map option_to_list places) ≡ true
+pub below_after :
+    (r : ℕ) (places : Places) → after_all places ≤ r + 1 →
+    list_all (λ d. leb (reading_of d) r) (flat_map option_to_list places) ≡ true
 below_after r [] below = refl
 below_after r (None ∷ places) below = below_after r places (omega arith)
 below_after r (Some day ∷ places) below =
@@ -71,21 +82,30 @@ LeadsOf places i (Some best) = Leads places i best
 pub ruleset one_place_more = (gets, after_all_more)
 
 -- where a reading was found at a place, a day with it is posted there
-posted_there : (places : Places) (k : ℕ) (r : Therms) (seen : Option (Option DayRecord)) → slice_get places k ≡ seen → reading_at seen ≡ Some r → (day : DayRecord) × ((get_or places k None ≡ Some day) × (day.reading ≡ r))
+posted_there :
+    (places : Places) (k : ℕ) (r : Therms) (seen : Option (Option DayRecord)) →
+    slice_get places k ≡ seen → reading_at seen ≡ Some r →
+    (day : DayRecord) × ((get_or places k None ≡ Some day) × (day.reading ≡ r))
 posted_there places k r None is reads = absurd cc
 posted_there places k r (Some None) is reads = absurd cc
-posted_there places k r (Some (Some day)) is reads = (day, (get_or_from_slice_get places k (Some day) None is, cc))
+posted_there places k r (Some (Some day)) is reads =
+    (day, (get_or_from_slice_get places k (Some day) None is, cc))
 
 -- where none leads among all places, no day is posted
-pub none_at_end : (places : Places) (i : ℕ) (best : Option (ℕ × Therms)) → best ≡ None → length places ≤ i → LeadsOf places i best → flat_map option_to_list places ≡ []
+pub none_at_end :
+    (places : Places) (i : ℕ) (best : Option (ℕ × Therms)) → best ≡ None → length places ≤ i →
+    LeadsOf places i best → flat_map option_to_list places ≡ []
 none_at_end places i best none end leads =
     let all = subst (λ (o : Option (ℕ × Therms)). LeadsOf places i o) none leads in
     none_posted places (rw (take_all i places end) at all)
 
 -- the leading day among all places is the peak
-pub peak_at_end : (places : Places) (i : ℕ) (best : Option (ℕ × Therms)) (b : ℕ × Therms) → best ≡ Some b → length places ≤ i → LeadsOf places i best → HasPeak places b.0
+pub peak_at_end :
+    (places : Places) (i : ℕ) (best : Option (ℕ × Therms)) (b : ℕ × Therms) → best ≡ Some b →
+    length places ≤ i → LeadsOf places i best → HasPeak places b.0
 peak_at_end places i best b is end leads =
-    let leading : Leads places i b = subst (λ (o : Option (ℕ × Therms)). LeadsOf places i o) is leads in
+    let leading : Leads places i b = subst (λ (o : Option (ℕ × Therms)). LeadsOf places i o) is
+      leads in
     let there = posted_there places (b.0 - 1) b.1 _ refl leading.posted in
     let most = rw (take_all i places end) at leading.greatest in
     let reading : reading_of there.0 ≡ b.1.count = ap (λ (t : Therms). t.count) there.1.1 in

@@ -1,5 +1,10 @@
--- Rows of numbers in bytes: what is written by some widths is read by them, and the other way round.
-use Rattle.std.proofs.Common.{◌≡◌, ℕ, zero, suc, ◌+◌, ◌*◌, ◌/◌, ◌%◌, ◌^◌, ◌<◌, ◌≤◌, List, [], ◌∷◌, ◌++◌, length, get_or, take, drop, sum, sym, refl, ap, ◌∙◌, ap₂, append_assoc, add_assoc, add-suc, arith, drop-cons, drop-drop, get_or-append-add, take-add}
+-- Rows of numbers in bytes: what is written by some widths is read by them, and the other way
+-- round.
+use Rattle.std.proofs.Common.{
+  ◌≡◌, ℕ, zero, suc, ◌+◌, ◌*◌, ◌/◌, ◌%◌, ◌^◌, ◌<◌, ◌≤◌, List, [], ◌∷◌, ◌++◌, length, get_or, take,
+  drop, sum, sym, refl, ap, ◌∙◌, ap₂, append_assoc, add_assoc, add-suc, arith, drop-cons,
+  drop-drop, get_or-append-add, take-add
+}
 use Rattle.journal.specs.Numbers.{number_at, row_at, low_bytes, row_bytes, Fit}
 use Rattle.std.proofs.lemmas.List.Sums.{sum_by-cons}
 
@@ -11,11 +16,13 @@ length_low : (w n : ℕ) → length (low_bytes w n) ≡ w
 length_low zero n = refl
 length_low (suc w) n = ap suc (length_low w (n / 256))
 
-number_behind : (xs ys : List ℕ) (i w : ℕ) → number_at (xs ++ ys) (length xs + i) w ≡ number_at ys i w
+number_behind :
+    (xs ys : List ℕ) (i w : ℕ) → number_at (xs ++ ys) (length xs + i) w ≡ number_at ys i w
 number_behind xs ys i zero = refl
 number_behind xs ys i (suc w) =
     ap₂ (λ (b n : ℕ). b + 256 * n) (get_or-append-add xs ys i 0)
-    (ap (λ (k : ℕ). number_at (xs ++ ys) k w) (sym (add-suc (length xs) i)) ∙ number_behind xs ys (suc i) w)
+    (ap (λ (k : ℕ). number_at (xs ++ ys) k w) (sym (add-suc (length xs) i)) ∙ number_behind xs ys
+      (suc i) w)
 
 numbers_behind : (ws xs ys : List ℕ) (i : ℕ) → row_at ws (xs ++ ys) (length xs + i) ≡ row_at ws ys i
 numbers_behind [] xs ys i = refl
@@ -30,7 +37,8 @@ number_low (suc w) n rest h =
     let back = number_low w (n / 256) rest (omega arith) in
     omega (arith, more ∙ back)
 
--- reading by the widths gives back what was written by them, whatever stands behind it; no proof cites this, since the check finds it for each kind, and it says it of every row
+-- reading by the widths gives back what was written by them, whatever stands behind it; no proof
+-- cites this, since the check finds it for each kind, and it says it of every row
 pub numbers_bytes : (ws ns rest : List ℕ) → Fit ws ns → row_at ws (row_bytes ws ns ++ rest) 0 ≡ ns
 numbers_bytes [] [] rest f = refl
 numbers_bytes [] (n ∷ ns) rest f = absurd f
@@ -40,9 +48,12 @@ numbers_bytes (w ∷ ws) (n ∷ ns) rest f =
     let offset : 0 + w ≡ length (low_bytes w n) + 0 = omega (arith, length_low w n) in
     ap (λ (l : List ℕ). row_at (w ∷ ws) l 0) (append_assoc (low_bytes w n) (row_bytes ws ns) rest) ∙
     ap₂ ◌∷◌ (number_low w n tail f.0)
-    (ap (row_at ws (low_bytes w n ++ tail)) offset ∙ numbers_behind ws (low_bytes w n) tail 0 ∙ numbers_bytes ws ns rest f.1)
+    (ap (row_at ws (low_bytes w n ++ tail)) offset ∙ numbers_behind ws (low_bytes w n) tail 0 ∙
+      numbers_bytes ws ns rest f.1)
 
-low_number : (w i : ℕ) (bs : List ℕ) → Bytes bs → i + w ≤ length bs → low_bytes w (number_at bs i w) ≡ take w (drop i bs)
+low_number :
+    (w i : ℕ) (bs : List ℕ) → Bytes bs → i + w ≤ length bs →
+    low_bytes w (number_at bs i w) ≡ take w (drop i bs)
 low_number zero i bs b h = refl
 low_number (suc w) i bs b h =
     let n = number_at bs (suc i) w in
@@ -52,10 +63,13 @@ low_number (suc w) i bs b h =
     ap (take (suc w)) (sym (drop-cons bs i 0 (omega arith)))
 
 -- writing by the widths what was read by them gives the bytes that were read
-pub bytes_numbers : (ws : List ℕ) (i : ℕ) (bs : List ℕ) → Bytes bs → i + sum ws ≤ length bs → row_bytes ws (row_at ws bs i) ≡ take (sum ws) (drop i bs)
+pub bytes_numbers :
+    (ws : List ℕ) (i : ℕ) (bs : List ℕ) → Bytes bs → i + sum ws ≤ length bs →
+    row_bytes ws (row_at ws bs i) ≡ take (sum ws) (drop i bs)
 bytes_numbers [] i bs b h = refl
 bytes_numbers (w ∷ ws) i bs b h =
     let more : sum (w ∷ ws) ≡ w + sum ws = sum_by-cons (λ (n : ℕ). n) w ws in
-    ap₂ ◌++◌ (low_number w i bs b (omega (arith, more))) (bytes_numbers ws (i + w) bs b (omega (arith, more))) ∙
+    ap₂ ◌++◌ (low_number w i bs b (omega (arith, more)))
+      (bytes_numbers ws (i + w) bs b (omega (arith, more))) ∙
     ap (λ (l : List ℕ). take w (drop i bs) ++ take (sum ws) l) (sym (drop-drop w i bs)) ∙
     sym (take-add w (sum ws) (drop i bs)) ∙ ap (λ (n : ℕ). take n (drop i bs)) (sym more)

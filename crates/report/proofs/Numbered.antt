@@ -1,5 +1,8 @@
 -- The rows of lines, written one after another.
-use Rattle.std.proofs.Common.{◌≡◌, ℕ, ◌+◌, List, ◌∷◌, ◌++◌, Some, None, Ok, codes, Option, refl, sym, ap, ◌∙◌, append_assoc, add-one}
+use Rattle.std.proofs.Common.{
+  ◌≡◌, ℕ, ◌+◌, List, ◌∷◌, ◌++◌, Some, None, Ok, codes, Option, refl, sym, ap, ◌∙◌, append_assoc,
+  add-one
+}
 use Rattle.std.proofs.Math.ListN.{drop}
 use Rattle.std.proofs.Math.Seq.{drop-cons}
 use Rattle.std.proofs.lemmas.Option.{get_or_from_slice_get, slice_get_within}
@@ -15,12 +18,19 @@ was_found (Some x) line e = cc
 was_found None line e = cc
 
 -- what is left of some lines from the one at an index on
-rest_from : (lines : List Line) (i : ℕ) (line : Line) → slice_get lines i ≡ Some line → drop i lines ≡ line ∷ drop (i + 1) lines
+rest_from :
+    (lines : List Line) (i : ℕ) (line : Line) → slice_get lines i ≡ Some line →
+    drop i lines ≡ line ∷ drop (i + 1) lines
 rest_from lines i line e =
     let within = slice_get_within lines i line e in
     rw (add-one, drop-cons lines i line within, get_or_from_slice_get lines i line line e) refl
 
-pub one_more : (lines : List Line) (start text more : List ℕ) (i : ℕ) (line : Line) → text ++ lines_text (i + 1) (drop i lines) ≡ start → line_numbered lines (i + 1) ≡ Ok line → more ≡ text ++ (line_text (i + 1) line ++ codes "\n") → more ++ lines_text (i + 1 + 1) (drop (i + 1) lines) ≡ start
+pub one_more :
+    (lines : List Line) (start text more : List ℕ) (i : ℕ) (line : Line) →
+    text ++ lines_text (i + 1) (drop i lines) ≡ start → line_numbered lines (i + 1) ≡ Ok line →
+    more ≡ text ++ (line_text (i + 1) line ++ codes "\n") →
+    more ++ lines_text (i + 1 + 1) (drop (i + 1) lines) ≡ start
 one_more lines start text more i line sofar is m =
     let here : slice_get lines i ≡ Some line = was_found _ line (rw add-one at is) in
-    rw m (append_assoc text _ _ ∙ ap (λ t. text ++ t) (append_assoc (line_text (i + 1) line) _ _) ∙ ap (λ ls. text ++ lines_text (i + 1) ls) (sym (rest_from lines i line here)) ∙ sofar)
+    rw m (append_assoc text _ _ ∙ ap (λ t. text ++ t) (append_assoc (line_text (i + 1) line) _ _) ∙
+      ap (λ ls. text ++ lines_text (i + 1) ls) (sym (rest_from lines i line here)) ∙ sofar)

@@ -8,6 +8,8 @@ use Rattle.gas.specs.declared.month.TheConstants.{MOST_A_MONTH}
 
 abbrev pub invariant-loop-number : goal.invariant-loop-number
 invariant-loop-number l = record {
-  is : l.sum.count +ℤ therms_in (year_by not_opened l.self) (range_with_len l.number (12 - l.number)) ≡ open_therms (year_by not_opened l.self);
+  is :
+      l.sum.count +ℤ therms_in (year_by not_opened l.self)
+        (range_with_len l.number (12 - l.number)) ≡ open_therms (year_by not_opened l.self);
   within : unsigned_abs l.sum.count ≤ MOST_A_MONTH * l.number;
 }
