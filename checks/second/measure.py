@@ -1,7 +1,7 @@
 #!/usr/bin/env python3
 """Measures `lines` beside the second program on two journals of nearly full size: instructions by callgrind, and time.
 
-    second/measure.py [RUNS]
+    checks/second/measure.py [RUNS]
 
 Both journals open a common year with all months interim, post and close each of them, settle, and then correct days
 all over the year up to the largest size. In `moving` a correction puts another reading in, in `resting` the record
@@ -17,9 +17,9 @@ import sys
 import tempfile
 import time
 
-TOP = pathlib.Path(__file__).resolve().parent.parent
+TOP = pathlib.Path(__file__).resolve().parent.parent.parent
 PROVED = TOP / "crates" / "lines" / "out" / "lines"
-SECOND = TOP / "second" / "target" / "release" / "lines"
+SECOND = TOP / "checks" / "second" / "target" / "release" / "lines"
 MONTHS = [30, 31, 31, 28, 31, 30, 31, 30, 31, 31, 30, 31]
 MOST_BYTES = 65536
 
@@ -61,7 +61,7 @@ def once(program, path):
 
 def main():
     runs = int(sys.argv[1]) if len(sys.argv) > 1 else 30
-    subprocess.run([str(TOP / "second" / "build.sh")], check=True)
+    subprocess.run([str(TOP / "checks" / "second" / "build.sh")], check=True)
     print("journal bytes corrections | instructions: lines second ratio | milliseconds: lines second ratio")
     for name, moving in (("moving", True), ("resting", False)):
         bytes_, corrections = journal(moving)

@@ -1,11 +1,11 @@
 #!/usr/bin/env python3
-"""Plants the bugs of planted/ one at a time, each in a copy, and says what the check made of it.
+"""Plants the bugs of checks/planted/ one at a time, each in a copy, and says what the check made of it.
 
-    tools/planted.py                   all crates
-    tools/planted.py book gas          these crates
-    tools/planted.py --said book gas   with what rt said of each
+    checks/planted.py                   all crates
+    checks/planted.py book gas          these crates
+    checks/planted.py --said book gas   with what rt said of each
 
-planted/CRATE.txt has a block of lines for each bug, with an empty line between two:
+checks/planted/CRATE.txt has a block of lines for each bug, with an empty line between two:
 
     bug: a name for it
     of: the function or method that it is planted in
@@ -37,7 +37,7 @@ SAID = re.compile(r"^rt: must-fail (\w+)/(\w+)\.edit: (.*)$")
 
 def bugs_of(crate):
     """The blocks of a crate's file: (name, function, the lines of the edit)."""
-    text = (TOP / "planted" / f"{crate}.txt").read_text()
+    text = (TOP / "checks" / "planted" / f"{crate}.txt").read_text()
     bugs = []
     for block in re.split(r"\n\s*\n", text.strip()):
         lines = [line for line in block.split("\n") if not line.startswith("#")]
@@ -82,7 +82,7 @@ def verdict(said):
 
 
 def main(wanted, all_said):
-    crates = wanted or sorted(path.stem for path in (TOP / "planted").glob("*.txt"))
+    crates = wanted or sorted(path.stem for path in (TOP / "checks" / "planted").glob("*.txt"))
     rows, unproved = [], []
     with tempfile.TemporaryDirectory(prefix="planted-") as name:
         folder = pathlib.Path(name)
@@ -113,4 +113,7 @@ def main(wanted, all_said):
     sys.exit(0 if all(row[3].startswith("refused") for row in rows) else 1)
 
 
-main([word for word in sys.argv[1:] if word != "--said"], "--said" in sys.argv)
+if __name__ == "__main__":
+    if "--help" in sys.argv:
+        sys.exit(print(__doc__.strip()))
+    main([word for word in sys.argv[1:] if word != "--said"], "--said" in sys.argv)

@@ -2,20 +2,20 @@
 # Builds the proved programs and the second ones and compares what they print: `prices`, and `lines` on generated
 # journals, each output and exit status to the byte.
 #
-#     second/compare.sh [COUNT [SEED]]
+#     checks/second/compare.sh [COUNT [SEED]]
 #
-# The first journal that differs is saved in second/difference/ with what both made of it. The status is 0 only if all
-# agree.
+# The first journal that differs is saved in checks/second/difference/ with what both made of it. The status is 0 only
+# if all agree.
 set -eu
-cd "$(dirname "$0")/.."
+cd "$(dirname "$0")/../.."
 count=${1:-1000}
 seed=${2:-1}
-second/build.sh
-rm -rf second/difference
+checks/second/build.sh
+rm -rf checks/second/difference
 work=$(mktemp -d)
 trap 'rm -rf "$work"' EXIT
 crates/prices/out/prices > "$work/ours"
-second/target/release/prices > "$work/second"
+checks/second/target/release/prices > "$work/second"
 if [ "$(wc -l < "$work/ours")" -ne 271 ]; then
     echo "prices: no header with 270 rows"
     exit 2
@@ -25,5 +25,5 @@ if ! diff "$work/ours" "$work/second"; then
     exit 1
 fi
 echo "prices: the same"
-second/target/release/compare crates/lines/out/lines second/target/release/lines \
-    --count "$count" --seed "$seed" --save second/difference
+checks/second/target/release/compare crates/lines/out/lines checks/second/target/release/lines \
+    --count "$count" --seed "$seed" --save checks/second/difference

@@ -174,7 +174,7 @@ impl Comparison {
     }
 
     fn recipe(&self, number: u64) -> String {
-        format!("second/target/release/generate {} {number}", self.seed)
+        format!("checks/second/target/release/generate {} {number}", self.seed)
     }
 
     fn sum_up(&self, trials: &[Trial]) -> (Outcome, String) {

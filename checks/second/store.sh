@@ -2,11 +2,11 @@
 # Chooses anew the journals that the program `batch` is tried on, and stores what the second program makes of them as
 # what `batch` must print. The worked November comes first. The proved programs are not asked.
 #
-#     second/store.sh [SEED]
+#     checks/second/store.sh [SEED]
 set -eu
-cd "$(dirname "$0")/.."
-(cd second && cargo build --quiet --release --offline --target-dir target)
-second=second/target/release
+cd "$(dirname "$0")/../.."
+(cd checks/second && cargo build --quiet --release --offline --target-dir target)
+second=checks/second/target/release
 batch=crates/batch
 rm -rf "$batch/data"
 mkdir "$batch/data"
