@@ -1,15 +1,13 @@
 -- When a call is answered and leaves what its outcome says.
-use Rattle.std.proofs.Common.{
-  ◌≡◌, Bool, true, false, Some, Ok, Err, Result, true≢false, refl, sym, ◌∙◌
-}
+use Rattle.std.proofs.Common.{◌≡◌, Bool, true, false, Some, Ok, Err, Result, true≢false, refl, sym}
+use Rattle.std.proofs.Common.{◌∙◌}
 use Rattle.std.specs.Result.{IsErr, IsErrAnd}
 use Rattle.gas.specs.Inputs.{first_failure}
 use Rattle.gas.specs.Tariffs.{Tariff}
 use Rattle.ledger.specs.declared.faults.AccountFault.{AccountFault}
 use Rattle.ledger.specs.declared.faults.AccountFault.TheVariants as fault
-use Rattle.ledger.specs.Calls.{
-  Call, State, closing, correction, opening, outcome, payment, posting, settling, tests
-}
+use Rattle.ledger.specs.Calls.{Call, State, closing, correction, opening, outcome, payment, posting}
+use Rattle.ledger.specs.Calls.{settling, tests}
 use Rattle.ledger.specs.Year.{not_opened}
 use Rattle.book.proofs.Outcomes.{refused}
 use Rattle.account.specs.Calls.{Called}

@@ -17,15 +17,15 @@ module _ {S : Type 0} {tariff : S → Tariff} {sch : S} (at : code.Standing) {b 
     {a : Holding S} (same : record { schedule = sch; state = state_of (standing_now at) b } ≡ a)
     (r : Record)
   where
-  -- a record that needs an opened account
-  pub unopened :
-      at ≡ code.TheVariants.NotOpened → needs_opening (call_of r) ≡ true →
-      Called tariff a (call_of r) (Err fault.NotOpened) a
-  unopened new needs = fails (before_opening (call_of r) a.state needs (rw (sym same, new) refl))
+    -- a record that needs an opened account
+    pub unopened :
+        at ≡ code.TheVariants.NotOpened → needs_opening (call_of r) ≡ true →
+        Called tariff a (call_of r) (Err fault.NotOpened) a
+    unopened new needs = fails (before_opening (call_of r) a.state needs (rw (sym same, new) refl))
 
-  -- an opening of one that is opened
-  pub opened_already :
-      {leap increase first last : ℕ} → is_opened (standing_now at) ≡ true →
-      r ≡ kind.Open leap increase first last →
-      Called tariff a (call_of r) (Err fault.OpenedAlready) a
-  opened_already opened is = rw is (fails (rw (sym same, opened) refl))
+    -- an opening of one that is opened
+    pub opened_already :
+        {leap increase first last : ℕ} → is_opened (standing_now at) ≡ true →
+        r ≡ kind.Open leap increase first last →
+        Called tariff a (call_of r) (Err fault.OpenedAlready) a
+    opened_already opened is = rw is (fails (rw (sym same, opened) refl))

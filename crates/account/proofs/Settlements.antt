@@ -1,7 +1,6 @@
 -- When a settlement is refused before it reaches the book.
-use Rattle.std.proofs.Common.{
-  ◌≡◌, Bool, true, false, ◌&&◌, [], ◌∷◌, leb, Some, None, Err, Result, refl, sym
-}
+use Rattle.std.proofs.Common.{◌≡◌, Bool, true, false, ◌&&◌, [], ◌∷◌, leb, Some, None, Err, Result}
+use Rattle.std.proofs.Common.{refl, sym}
 use Rattle.std.specs.Result.{IsErr, IsErrAnd}
 use Rattle.gas.specs.declared.faults.InputFault.TheVariants as input
 use Rattle.gas.specs.declared.units.TheConstants.{MOST_PER_MILLE}
@@ -42,17 +41,17 @@ module _ {S : Type 0} {tariff : S → Tariff} {sch : S} (at : code.Standing) {b 
     (opened : is_opened (standing_now at) ≡ true) {r : Record} (t : Settlement)
     (is : r ≡ kind.Settle t.final_increase t.interest)
   where
-  pub settlement_refused :
-      {answer : Result (Unit {0}) AccountFault} {f : AccountFault} → IsErr answer →
-      IsErrAnd answer (λ e. e ≡ f) → Some f ≡ first_failure (settlement_input t ∷ []) →
-      Called tariff a (call_of r) answer a
-  settlement_refused {f = f} one other e =
-      let test = failed (is_lawful t) f (fault.Input input.Share) e in
-      rw is (handed_on one other (rw (sym same, opened, test.0, test.1) refl))
+    pub settlement_refused :
+        {answer : Result (Unit {0}) AccountFault} {f : AccountFault} → IsErr answer →
+        IsErrAnd answer (λ e. e ≡ f) → Some f ≡ first_failure (settlement_input t ∷ []) →
+        Called tariff a (call_of r) answer a
+    settlement_refused {f = f} one other e =
+        let test = failed (is_lawful t) f (fault.Input input.Share) e in
+        rw is (handed_on one other (rw (sym same, opened, test.0, test.1) refl))
 
-  pub settled_already :
-      None ≡ first_failure (settlement_input t ∷ []) → is_settled (standing_now at) ≡ true →
-      Called tariff a (call_of r) (Err fault.SettledAlready) a
-  settled_already e settled =
-      let test = held (is_lawful t) (fault.Input input.Share) e in
-      rw is (fails (rw (sym same, opened, test, settled) refl))
+    pub settled_already :
+        None ≡ first_failure (settlement_input t ∷ []) → is_settled (standing_now at) ≡ true →
+        Called tariff a (call_of r) (Err fault.SettledAlready) a
+    settled_already e settled =
+        let test = held (is_lawful t) (fault.Input input.Share) e in
+        rw is (fails (rw (sym same, opened, test, settled) refl))

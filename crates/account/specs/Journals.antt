@@ -2,16 +2,8 @@
 use Rattle.std.specs.Prelude.{ℕ, ◌+◌, List, [], ◌∷◌, ◌++◌, Some, None, Ok, Err, Option, Result}
 use Rattle.std.specs.Result.{result_map_both}
 use Rattle.ledger.specs.declared.faults.AccountFault.{AccountFault}
-use Rattle.ledger.specs.Calls.{
-  Call,
-  State,
-  closing,
-  correction,
-  opening,
-  payment,
-  posting,
-  settling,
-}
+use Rattle.ledger.specs.Calls.{Call, State, closing, correction, opening, payment, posting}
+use Rattle.ledger.specs.Calls.{settling}
 use Rattle.gas.specs.Tariffs.{Tariff}
 use Rattle.ledger.specs.Runs.{Entry, History, left_by, refusal_by}
 use Rattle.journal.specs.declared.faults.ReadFault.{ReadFault}

@@ -11,6 +11,8 @@ mod fixtures;
 #[cfg(test)]
 mod limits;
 #[cfg(test)]
+mod messages;
+#[cfg(test)]
 mod november;
 #[cfg(test)]
 mod overruns;

@@ -1,4 +1,4 @@
-//! The worked November of docs/HISTORY.md on the code, by calls and by records, and a correction
+//! The worked November of docs/LEDGER.md on the code, by calls and by records, and a correction
 //! behind it. The figures are that page's.
 use crate::fixtures::{
     IDLE, QUIET, SMALL, Written, answers, closing, ends_with, even, post, posting,
@@ -124,8 +124,7 @@ fn by_records(rt: HostRuntime) -> Result<(), Fail> {
 // What is written where day 29 is read at 80, too. By hand: of 2,970 therms item 2 is 36,890,370;
 // item 4 is 30 × 6,570, and item 5 −30 × 31,000. At 137 item 9 is 7,184,331 and item 10 2,944,590,
 // at 100 they are 5,244,037 and 2,847,575. So the refund is 61,836,391 − 59,799,082 = 2,037,309,
-// and the interest 40,746. The functions of figures/history.py, with this call behind the others,
-// write the same lines.
+// and the interest 40,746.
 const CORRECTED: [Written; 7] = [
     (0, 2, 0, -248_420),
     (0, 4, 0, 131_400),

@@ -1,9 +1,7 @@
 -- What the functions of a book leave is the outcome of a call.
-use Rattle.std.proofs.Common.{
-  ◌≡◌, ℕ, zero, suc, ◌+◌, ◌≤◌, Bool, true, false, cond, get_or, is_some, not, List, [], ◌∷◌, ◌++◌,
-  length, set, Some, None, Ok, Err, Option, Result, is_err, OnErr, append-nil, refl, sym, ap, ◌∙◌,
-  arith, leb
-}
+use Rattle.std.proofs.Common.{◌≡◌, ℕ, zero, suc, ◌+◌, ◌≤◌, Bool, true, false, cond, get_or, is_some}
+use Rattle.std.proofs.Common.{not, List, [], ◌∷◌, ◌++◌, length, set, Some, None, Ok, Err, Option}
+use Rattle.std.proofs.Common.{Result, is_err, OnErr, append-nil, refl, sym, ap, ◌∙◌, arith, leb}
 use Rattle.std.proofs.lemmas.Bool.Decides.{nat_tests}
 use Rattle.std.specs.Result.{IsErr, IsErrAnd}
 use Rattle.gas.specs.declared.day.DayNumbers.{DayNumbers}
@@ -14,10 +12,8 @@ use Rattle.ledger.specs.declared.lines.Line.{Line}
 use Rattle.ledger.specs.declared.lines.TheConstants.{MOST_LINES}
 use Rattle.gas.specs.Inputs.{first_failure, answer_by, value_if}
 use Rattle.gas.specs.Made.{day_of}
-use Rattle.ledger.specs.Calls.{
-  Call, State, Tests, by_account, correction, day_input, day_tests, year_after, outcome, posting,
-  tests, with_lines, lines_of_call
-}
+use Rattle.ledger.specs.Calls.{Call, State, Tests, by_account, correction, day_input, day_tests}
+use Rattle.ledger.specs.Calls.{year_after, outcome, posting, tests, with_lines, lines_of_call}
 use Rattle.ledger.specs.Days.{Places, place_of}
 use Rattle.ledger.specs.Due.{lines_due_in}
 use Rattle.gas.specs.Tariffs.{Tariff}
@@ -40,7 +36,7 @@ refused s c a f e = rw e refl
 pub passed :
     (s : Tariff) (c : Call) (a : State) → first_failure (tests c a) ≡ None →
     outcome s c a ≡ with_lines (year_after c a.year) a.lines
-      (lines_of_call s c (year_after c a.year) a.lines)
+    (lines_of_call s c (year_after c a.year) a.lines)
 unfolding outcome
 passed s c a e = rw e refl
 
@@ -70,25 +66,25 @@ fails_later (x ∷ xs) ys e = later_of x.0 _ _ _ x.1 (fails_later xs ys) e
 
 -- what `?` hands on
 pub handed_on :
-    (r : Result (Unit {0}) AccountFault) (x : State) (o : Result State AccountFault)
-      (f : AccountFault) →
+    (r : Result (Unit {0}) AccountFault) (x : State) {o : Result State AccountFault}
+    {f : AccountFault} →
     IsErr r → IsErrAnd r (λ e. e ≡ f) → Err f ≡ o → answer_by (λ _. x) r ≡ o
-handed_on (Ok u) x o f is one h = absurd cc
-handed_on (Err e) x o f is one h = rw one h
+handed_on (Ok u) x is one h = absurd cc
+handed_on (Err e) x is one h = rw one h
 
 -- the tests of a day in an opened account
 module _ (a : State) (month day : ℕ) (n : DayNumbers) (stands : Bool × AccountFault)
     (opened : is_opened a.year.standing ≡ true)
   where
-  day_refused :
-      (f : AccountFault) → first_failure (day_input a.year.leap month day n) ≡ Some f →
-      first_failure (day_tests a month day n stands) ≡ Some f
-  day_refused f e = rw opened (fails_first (day_input a.year.leap month day n) (stands ∷ []) f e)
+    day_refused :
+        (f : AccountFault) → first_failure (day_input a.year.leap month day n) ≡ Some f →
+        first_failure (day_tests a month day n stands) ≡ Some f
+    day_refused f e = rw opened (fails_first (day_input a.year.leap month day n) (stands ∷ []) f e)
 
-  day_passed :
-      first_failure (day_input a.year.leap month day n) ≡ None →
-      first_failure (day_tests a month day n stands) ≡ first_failure (stands ∷ [])
-  day_passed e = rw opened (fails_later (day_input a.year.leap month day n) (stands ∷ []) e)
+    day_passed :
+        first_failure (day_input a.year.leap month day n) ≡ None →
+        first_failure (day_tests a month day n stands) ≡ first_failure (stands ∷ [])
+    day_passed e = rw opened (fails_later (day_input a.year.leap month day n) (stands ∷ []) e)
 
 -- of a test on a number, the refusal says that it failed, and the number that it passed
 pub untaken :
@@ -106,52 +102,52 @@ pub fits :
     (y : Year) (lines more : List Line) → length lines + length more ≤ MOST_LINES →
     with_lines y lines (Ok more) ≡ Ok (record { year = y; lines = lines ++ more })
 fits y lines more room = let test : leb (length lines + length more) MOST_LINES ≡ true = grind
-  (arith, nat_tests) in rw test refl
+    (arith, nat_tests) in rw test refl
 
 -- a posting, in any account that was opened
-module _ (y : MeterYear) (lines : List Line) (b : Contents)
+module _ {y : MeterYear} {lines : List Line} {b : Contents}
     (same : record { year = y; lines = lines } ≡ b) (month day : ℕ) (n : DayNumbers) (s : Tariff)
     (t : Standing) (opened : is_opened t ≡ true)
   where
-  pub posting_refused :
-      (f : AccountFault) → Some f ≡ first_failure (day_input y.leap month day n) →
-      Err f ≡ outcome s (posting month day n) (state_of t b)
-  posting_refused f e =
-      rw (sym same) (refused s (posting month day n)
-        (record { year = year_by t y; lines = lines }) f
-          (day_refused (record { year = year_by t y; lines = lines }) month day n _ opened f
-            (sym e)))
-
-  module _ (place : ℕ) (stands : Option DayRecord)
-      (e : None ≡ first_failure (day_input y.leap month day n)) (at : place ≡ place_of month day)
-      (is : stands ≡ get_or y.days place None)
-    where
-    tested : first_failure (tests (posting month day n)
-      (record { year = year_by t y; lines = lines })) ≡ first_failure
-        ((not (is_some stands), fault.PostedAlready) ∷ [])
-    tested =
-        day_passed (record { year = year_by t y; lines = lines }) month day n _ opened (sym e)
-        ∙ rw (is, at) refl
-
-    pub posted_already :
-        true ≡ is_some stands →
-        Err fault.PostedAlready ≡ outcome s (posting month day n) (state_of t b)
-    posted_already posted =
+    pub posting_refused :
+        {f : AccountFault} → Some f ≡ first_failure (day_input y.leap month day n) →
+        Err f ≡ outcome s (posting month day n) (state_of t b)
+    posting_refused {f = f} e =
         rw (sym same) (refused s (posting month day n)
-          (record { year = year_by t y; lines = lines }) fault.PostedAlready
+        (record { year = year_by t y; lines = lines }) f
+        (day_refused (record { year = year_by t y; lines = lines }) month day n _ opened f
+        (sym e)))
+
+    module _ {place : ℕ} {stands : Option DayRecord}
+        (e : None ≡ first_failure (day_input y.leap month day n)) (at : place ≡ place_of month day)
+        (is : stands ≡ get_or y.days place None)
+      where
+        tested : first_failure (tests (posting month day n)
+            (record { year = year_by t y; lines = lines })) ≡ first_failure
+            ((not (is_some stands), fault.PostedAlready) ∷ [])
+        tested =
+            day_passed (record { year = year_by t y; lines = lines }) month day n _ opened (sym e)
+            ∙ rw (is, at) refl
+
+        pub posted_already :
+            true ≡ is_some stands →
+            Err fault.PostedAlready ≡ outcome s (posting month day n) (state_of t b)
+        posted_already posted =
+            rw (sym same) (refused s (posting month day n)
+            (record { year = year_by t y; lines = lines }) fault.PostedAlready
             (tested ∙ rw (sym posted) refl))
 
-    pub posted :
-        (d : DayRecord) (after : Contents) → false ≡ is_some stands → Ok d ≡ day_of n →
-        length lines ≤ MOST_LINES → after ≡ with_days b (set b.year.days place (Some d)) →
-        Ok (state_of t after) ≡ outcome s (posting month day n) (state_of t b)
-    posted d after absent made room left =
-        let a : State = record { year = year_by t y; lines = lines } in
-        let passes : first_failure (tests (posting month day n) a) ≡ None = tested ∙ rw
-          (sym absent) refl in
-        let all : length lines + 0 ≤ MOST_LINES = omega arith in
-        rw (left, sym same) (sym (passed s (posting month day n) a passes ∙ fits
-          (year_after (posting month day n) a.year) lines [] all ∙ rw
+        pub posted :
+            {d : DayRecord} {after : Contents} → false ≡ is_some stands → Ok d ≡ day_of n →
+            length lines ≤ MOST_LINES → after ≡ with_days b (set b.year.days place (Some d)) →
+            Ok (state_of t after) ≡ outcome s (posting month day n) (state_of t b)
+        posted absent made room left =
+            let a : State = record { year = year_by t y; lines = lines } in
+            let passes : first_failure (tests (posting month day n) a) ≡ None = tested ∙ rw
+            (sym absent) refl in
+            let all : length lines + 0 ≤ MOST_LINES = omega arith in
+            rw (left, sym same) (sym (passed s (posting month day n) a passes ∙ fits
+            (year_after (posting month day n) a.year) lines [] all ∙ rw
             (sym made, at, append-nil lines) refl))
 
 -- an account that has terms was opened
@@ -167,10 +163,10 @@ refused_alike (Ok u) x y e = absurd cc
 refused_alike (Err f) x y e = refl
 
 pub if_refused :
-    (r : Result (Unit {0}) AccountFault) (P Q : Type 0) → true ≡ is_err r → OnErr r P → (P → Q) →
+    (r : Result (Unit {0}) AccountFault) {P Q : Type 0} → true ≡ is_err r → OnErr r P → (P → Q) →
     OnErr r Q
-if_refused (Ok u) P Q e p to = absurd cc
-if_refused (Err f) P Q e p to = to p
+if_refused (Ok u) e p to = absurd cc
+if_refused (Err f) e p to = to p
 
 -- a record that is put back
 put_back :
@@ -181,50 +177,50 @@ put_back (x ∷ xs) zero d before e = rw e refl
 put_back (x ∷ xs) (suc n) d before e = ap (λ (ds : Places). x ∷ ds) (put_back xs n d before e)
 
 -- a correction, in an account that was opened
-module _ (y : MeterYear) (lines : List Line) (b : Contents)
+module _ {y : MeterYear} {lines : List Line} {b : Contents}
     (same : record { year = y; lines = lines } ≡ b) (month day : ℕ) (n : DayNumbers) (s : Tariff)
     (t : Standing) (opened : is_opened t ≡ true)
   where
-  pub correction_refused :
-      (f : AccountFault) → Some f ≡ first_failure (day_input y.leap month day n) →
-      Err f ≡ outcome s (correction month day n) (state_of t b)
-  correction_refused f e =
-      rw (sym same) (refused s (correction month day n)
+    pub correction_refused :
+        {f : AccountFault} → Some f ≡ first_failure (day_input y.leap month day n) →
+        Err f ≡ outcome s (correction month day n) (state_of t b)
+    correction_refused {f = f} e =
+        rw (sym same) (refused s (correction month day n)
         (record { year = year_by t y; lines = lines }) f
-          (day_refused (record { year = year_by t y; lines = lines }) month day n _ opened f
-            (sym e)))
+        (day_refused (record { year = year_by t y; lines = lines }) month day n _ opened f
+        (sym e)))
 
-  module _ (place : ℕ) (stands : Option DayRecord)
-      (e : None ≡ first_failure (day_input y.leap month day n)) (at : place ≡ place_of month day)
-      (is : stands ≡ get_or b.year.days place None)
-    where
-    corrected :
-        first_failure (tests (correction month day n) (state_of t b)) ≡ first_failure
-          ((is_some stands, fault.NotPosted) ∷ [])
-    corrected =
-        let first : first_failure (tests (correction month day n)
-          (record { year = year_by t y; lines = lines })) ≡ first_failure
+    module _ {place : ℕ} {stands : Option DayRecord}
+        (e : None ≡ first_failure (day_input y.leap month day n)) (at : place ≡ place_of month day)
+        (is : stands ≡ get_or b.year.days place None)
+      where
+        corrected :
+            first_failure (tests (correction month day n) (state_of t b)) ≡ first_failure
+            ((is_some stands, fault.NotPosted) ∷ [])
+        corrected =
+            let first : first_failure (tests (correction month day n)
+            (record { year = year_by t y; lines = lines })) ≡ first_failure
             ((is_some (get_or y.days (place_of month day) None), fault.NotPosted) ∷ []) = day_passed
-              (record { year = year_by t y; lines = lines }) month day n _ opened (sym e) in
-        rw (is, at, sym same) first
+            (record { year = year_by t y; lines = lines }) month day n _ opened (sym e) in
+            rw (is, at, sym same) first
 
-    pub not_posted :
-        None ≡ stands → Err fault.NotPosted ≡ outcome s (correction month day n) (state_of t b)
-    not_posted absent =
-        refused s (correction month day n) (state_of t b) fault.NotPosted
-          (corrected ∙ rw (sym absent) refl)
+        pub not_posted :
+            None ≡ stands → Err fault.NotPosted ≡ outcome s (correction month day n) (state_of t b)
+        not_posted absent =
+            refused s (correction month day n) (state_of t b) fault.NotPosted
+            (corrected ∙ rw (sym absent) refl)
 
-    pub corrects :
-        (d before : DayRecord) (put : Contents) → Some before ≡ stands → Ok d ≡ day_of n →
-        put ≡ with_days b (days_exchanged b.year.days place d (Some before)) →
-        with_lines (year_by t put.year) put.lines
-          (by_account (lines_due_in s (year_by t put.year) put.lines)) ≡ outcome s
+        pub corrects :
+            {d before : DayRecord} {put : Contents} → Some before ≡ stands → Ok d ≡ day_of n →
+            put ≡ with_days b (days_exchanged b.year.days place d (Some before)) →
+            with_lines (year_by t put.year) put.lines
+            (by_account (lines_due_in s (year_by t put.year) put.lines)) ≡ outcome s
             (correction month day n) (state_of t b)
-    corrects d before put posted made is_put =
-        let passes : first_failure (tests (correction month day n) (state_of t b)) ≡ None =
-          corrected ∙ rw (sym posted) refl in
-        rw is_put (sym (passed s (correction month day n) (state_of t b) passes ∙ rw
-          (sym made, at) refl))
+        corrects was made is_put =
+            let passes : first_failure (tests (correction month day n) (state_of t b)) ≡ None =
+            corrected ∙ rw (sym was) refl in
+            rw is_put (sym (passed s (correction month day n) (state_of t b) passes ∙ rw
+            (sym made, at) refl))
 
 -- a book with a record put back is the one before
 pub restored :
@@ -235,4 +231,4 @@ pub restored :
 restored b put trued_up after place d before stood one two three =
     three
     ∙ rw (two, one) (ap (λ (days : Places). with_days b days)
-      (put_back b.year.days place d before stood))
+    (put_back b.year.days place d before stood))

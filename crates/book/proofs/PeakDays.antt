@@ -1,8 +1,6 @@
 -- The peak day among the first places of a month.
-use Rattle.std.proofs.Common.{
-  ◌≡◌, ℕ, zero, suc, ◌+◌, ◌-◌, ◌≤◌, true, [], ◌∷◌, length, Some, None, Option, get_or, take, max,
-  leb, refl, ap, subst, add-one, arith
-}
+use Rattle.std.proofs.Common.{◌≡◌, ℕ, zero, suc, ◌+◌, ◌-◌, ◌≤◌, true, [], ◌∷◌, length, Some, None}
+use Rattle.std.proofs.Common.{Option, get_or, take, max, leb, refl, ap, subst, add-one, arith}
 use Rattle.std.specs.List.{flat_map, list_all, slice_get}
 use Rattle.std.specs.Option.{option_to_list}
 use Rattle.std.proofs.lemmas.Bool.{le-leb}
@@ -33,7 +31,7 @@ after_all (place ∷ places) = max (after place) (after_all places)
 after_all_suc :
     (places : Places) (i : ℕ) →
     after_all (take (suc i) places) ≡ max (after_all (take i places))
-      (after_at (slice_get places i))
+    (after_at (slice_get places i))
 after_all_suc [] zero = refl
 after_all_suc [] (suc i) = refl
 after_all_suc (place ∷ places) zero = omega arith
@@ -42,7 +40,7 @@ after_all_suc (place ∷ places) (suc i) = let rest = after_all_suc places i in 
 pub after_all_more :
     (places : Places) (i : ℕ) →
     after_all (take (i + 1) places) ≡ max (after_all (take i places))
-      (after_at (slice_get places i))
+    (after_at (slice_get places i))
 after_all_more places i = rw add-one (after_all_suc places i)
 
 -- no reading is above one that no place exceeds
@@ -105,7 +103,7 @@ pub peak_at_end :
     length places ≤ i → LeadsOf places i best → HasPeak places b.0
 peak_at_end places i best b is end leads =
     let leading : Leads places i b = subst (λ (o : Option (ℕ × Therms)). LeadsOf places i o) is
-      leads in
+    leads in
     let there = posted_there places (b.0 - 1) b.1 _ refl leading.posted in
     let most = rw (take_all i places end) at leading.greatest in
     let reading : reading_of there.0 ≡ b.1.count = ap (λ (t : Therms). t.count) there.1.1 in

@@ -1,15 +1,6 @@
 //! The table of a year's days, and the posted days of a month.
-ghost use Rattle.std.specs.Prelude.{
-  ◌≡◌,
-  ◌<◌,
-  ◌≤◌,
-  length,
-  replicate,
-  Some,
-  None,
-  slice_index_or,
-  slice_set,
-};
+ghost use Rattle.std.specs.Prelude.{◌≡◌, ◌<◌, ◌≤◌, length, replicate, Some, None, slice_index_or};
+ghost use Rattle.std.specs.Prelude.{slice_set};
 ghost use Rattle.ledger.specs.Days.{month_places, posted_in};
 ghost use Rattle.book.specs.Days.{days_exchanged};
 

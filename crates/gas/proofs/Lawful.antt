@@ -1,15 +1,13 @@
 -- What it means that totals or a day are lawful.
-use Rattle.std.proofs.Common.{
-  ◌≡◌, ℕ, ◌≤◌, Bool, true, false, leb, List, [], ◌∷◌, Ok, Result, refl, arith
-}
+use Rattle.std.proofs.Common.{◌≡◌, ℕ, ◌≤◌, Bool, true, false, leb, List, [], ◌∷◌, Ok, Result, refl}
+use Rattle.std.proofs.Common.{arith}
 use Rattle.std.proofs.lemmas.Bool.{and_parts, leb-true}
 use Rattle.gas.specs.declared.day.DayNumbers.{DayNumbers}
 use Rattle.gas.specs.declared.faults.InputFault.{InputFault}
 use Rattle.gas.specs.declared.faults.InputFault.TheVariants.{DayKind, Mark, Quantity}
 use Rattle.gas.specs.declared.month.TotalsNumbers.{TotalsNumbers}
-use Rattle.gas.specs.Inputs.{
-  checked_day, checked_totals, first_failure, has_lawful_quantities, value_if, answer_unless
-}
+use Rattle.gas.specs.Inputs.{checked_day, checked_totals, first_failure, has_lawful_quantities}
+use Rattle.gas.specs.Inputs.{value_if, answer_unless}
 
 -- what was taken has passed its test
 pub taken : {A F : Type 0} (b : Bool) (e : F) (a : A) → value_if b e a ≡ Ok a → b ≡ true
@@ -57,9 +55,9 @@ pub quantities_taken :
 quantities_taken n m h =
     let quantities : List (Bool × InputFault) = (has_lawful_quantities n, Quantity) ∷ [] in
     let marked = passed (leb n.kind 3) DayKind ((leb n.curtailed 1, Mark) ∷ quantities)
-      (Ok n) m h in
+    (Ok n) m h in
     alone (has_lawful_quantities n) Quantity n m
-      (passed (leb n.curtailed 1) Mark quantities (Ok n) m marked)
+    (passed (leb n.curtailed 1) Mark quantities (Ok n) m marked)
 
 -- what a test took is what it was given
 same : {A F : Type 0} (b : Bool) (e : F) (n a : A) → Ok a ≡ value_if b e n → a ≡ n

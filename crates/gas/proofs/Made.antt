@@ -1,7 +1,6 @@
 -- A lawful day is the one that its numbers make.
-use Rattle.std.proofs.Common.{
-  ◌≡◌, ℕ, Bool, true, false, eqb, Ok, Err, Result, refl, sym, ap, ◌∙◌, subst, arith
-}
+use Rattle.std.proofs.Common.{◌≡◌, ℕ, Bool, true, false, eqb, Ok, Err, Result, refl, sym, ap, ◌∙◌}
+use Rattle.std.proofs.Common.{subst, arith}
 use Rattle.std.specs.Result.{result_and}
 use Rattle.std.proofs.Math.Bridge.{le_prop}
 use Rattle.gas.specs.declared.day.DayKind.{DayKind}
@@ -38,10 +37,14 @@ same_made d ok =
       receipts = d.receipts;
       reading = d.reading;
       after_notice = d.after_notice;
-      supply_cost = record { price = d.supply_cost.price;
-        within = le_prop made.supply_cost.within d.supply_cost.within i };
-      variance_rate = record { price = d.variance_rate.price;
-        within = le_prop made.variance_rate.within d.variance_rate.within i };
+      supply_cost = record {
+        price = d.supply_cost.price;
+        within = le_prop made.supply_cost.within d.supply_cost.within i;
+      };
+      variance_rate = record {
+        price = d.variance_rate.price;
+        within = le_prop made.variance_rate.within d.variance_rate.within i;
+      };
       nominated = le_prop made.nominated d.nominated i;
       received = le_prop made.received d.received i;
       metered = le_prop made.metered d.metered i;
@@ -50,10 +53,10 @@ same_made d ok =
 
 tested :
     (n : DayNumbers) (r : Result DayRecord InputFault) (b : Bool) (e : has_lawful_quantities n ≡ b)
-      →
+    →
     answer_by numbers_of r ≡ value_if b input.Quantity n → r ≡ day_tested n b e
 tested n (Ok d) true e h = let same : numbers_of d ≡ n = cc in subst
-  (λ (m : DayNumbers). (ok : has_lawful_quantities m ≡ true) → Ok d ≡ day_tested m true ok) same
+    (λ (m : DayNumbers). (ok : has_lawful_quantities m ≡ true) → Ok d ≡ day_tested m true ok) same
     (λ ok. ap Ok (sym (same_made d ok))) e
 tested n (Err f) true e h = absurd (let z : ◌≡◌ {A = ℕ} 0 1 = cc in omega arith)
 tested n (Ok d) false e h = absurd (let z : ◌≡◌ {A = ℕ} 0 1 = cc in omega arith)
@@ -73,7 +76,7 @@ pub day_of_made :
     r ≡ day_of n
 day_of_made n r h =
     answered (checked_day n) r _ h (λ m e. tested n r (has_lawful_quantities n) refl
-      (h ∙ e ∙ quantities_taken n m (sym e)))
+    (h ∙ e ∙ quantities_taken n m (sym e)))
 
 pub made_of : (n : DayNumbers) (d : DayRecord) → Ok (numbers_of d) ≡ checked_day n → Ok d ≡ day_of n
 made_of n d h = day_of_made n (Ok d) h

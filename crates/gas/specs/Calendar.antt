@@ -1,17 +1,6 @@
 -- The days of the months of a gas year, which begins in November.
-use Rattle.std.specs.Prelude.{
-  ℕ,
-  Bool,
-  true,
-  false,
-  if◌then◌else◌,
-  ◌||◌,
-  List,
-  [],
-  ◌∷◌,
-  ◌==◌,
-  slice_index,
-}
+use Rattle.std.specs.Prelude.{ℕ, Bool, true, false, if◌then◌else◌, ◌||◌, List, [], ◌∷◌, ◌==◌}
+use Rattle.std.specs.Prelude.{slice_index}
 
 -- November to October of a common year
 abbrev pub common_year : List ℕ

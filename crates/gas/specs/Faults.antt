@@ -1,17 +1,8 @@
 -- The number by which each refusal is known.
 use Rattle.std.specs.Prelude.{ℕ}
 use Rattle.gas.specs.declared.faults.InputFault.{InputFault}
-use Rattle.gas.specs.declared.faults.InputFault.TheVariants.{
-  Month,
-  Day,
-  DayKind,
-  Mark,
-  Quantity,
-  Share,
-  Payment,
-  GasYear,
-  DayCount,
-}
+use Rattle.gas.specs.declared.faults.InputFault.TheVariants.{Month, Day, DayKind, Mark, Quantity}
+use Rattle.gas.specs.declared.faults.InputFault.TheVariants.{Share, Payment, GasYear, DayCount}
 use Rattle.gas.specs.declared.items.PriceValues.{PriceValues}
 use Rattle.gas.specs.declared.items.ScheduleFault.{ScheduleFault}
 use Rattle.gas.specs.declared.items.ScheduleFault.TheVariants.{PastLimit}

@@ -1,20 +1,6 @@
 -- When a number from outside is taken, and which refusal it gets if not.
-use Rattle.std.specs.Prelude.{
-  ℕ,
-  Bool,
-  if◌then◌else◌,
-  ◌&&◌,
-  List,
-  [],
-  ◌∷◌,
-  Some,
-  None,
-  Ok,
-  Err,
-  Option,
-  Result,
-  nat_le,
-}
+use Rattle.std.specs.Prelude.{ℕ, Bool, if◌then◌else◌, ◌&&◌, List, [], ◌∷◌, Some, None, Ok, Err}
+use Rattle.std.specs.Prelude.{Option, Result, nat_le}
 use Rattle.std.specs.Result.{result_map_both}
 use Rattle.gas.specs.declared.calendar.TheConstants.{LAST_MONTH}
 use Rattle.gas.specs.declared.day.TheConstants.{MOST_A_DAY}

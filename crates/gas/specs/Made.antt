@@ -1,20 +1,6 @@
 -- The lawful day that numbers make.
-use Rattle.std.specs.Prelude.{
-  ◌≡◌,
-  ℕ,
-  Bool,
-  true,
-  false,
-  [],
-  ◌∷◌,
-  Ok,
-  Err,
-  Result,
-  ◌==◌,
-  nat_le,
-  slice_index_or,
-  refl,
-}
+use Rattle.std.specs.Prelude.{◌≡◌, ℕ, Bool, true, false, [], ◌∷◌, Ok, Err, Result, ◌==◌, nat_le}
+use Rattle.std.specs.Prelude.{slice_index_or, refl}
 use Rattle.std.specs.Result.{result_and}
 use Rattle.std.proofs.lemmas.Bool.{and_parts, leb-true}
 use Rattle.gas.specs.declared.day.DayKind.{DayKind}

@@ -1,8 +1,7 @@
 -- Records and their bytes: what was read has its bytes, and a reader that gives a record moves on.
-use Rattle.std.proofs.Common.{
-  ◌≡◌, ℕ, zero, suc, ◌-◌, ◌<◌, Bool, true, false, cond, leb, List, [], ◌∷◌, length, get_or, take,
-  drop, sum, Some, Ok, Err, refl, ap, ◌∙◌, arith, leb-true, rules
-}
+use Rattle.std.proofs.Common.{◌≡◌, ℕ, zero, suc, ◌-◌, ◌<◌, Bool, true, false, cond, leb, List, []}
+use Rattle.std.proofs.Common.{◌∷◌, length, get_or, take, drop, sum, Some, Ok, Err, refl, ap, ◌∙◌}
+use Rattle.std.proofs.Common.{arith, leb-true, rules}
 use mathlib.Core.Path.{subst⁻¹}
 use Rattle.std.proofs.lemmas.Bool.{and_parts}
 use Rattle.std.proofs.lemmas.List.{take_rest}
@@ -11,9 +10,8 @@ use Rattle.journal.specs.declared.kinds.Located.{Located}
 use Rattle.journal.specs.declared.kinds.Record.{Record}
 use Rattle.journal.specs.Format.{kind_byte, widths, fields_of, record_bytes, record_length}
 use Rattle.journal.specs.Numbers.{row_at, row_bytes}
-use Rattle.journal.specs.Reading.{
-  is_kind, record_of_kind, read_record, offset_behind, answer_at, offset_after
-}
+use Rattle.journal.specs.Reading.{is_kind, record_of_kind, read_record, offset_behind, answer_at}
+use Rattle.journal.specs.Reading.{offset_after}
 use Rattle.journal.proofs.Widths.{Bytes, bytes_numbers}
 
 -- a record r has a kind, the numbers that a body begins with, and the length of such a body
@@ -33,7 +31,7 @@ made (suc (suc (suc zero))) body h = record { kind = refl; fields = refl; size =
 made (suc (suc (suc (suc zero)))) body h = record { kind = refl; fields = refl; size = refl }
 made (suc (suc (suc (suc (suc zero))))) body h = record { kind = refl; fields = refl; size = refl }
 made (suc (suc (suc (suc (suc (suc zero)))))) body h = record
-  { kind = refl; fields = refl; size = refl }
+    { kind = refl; fields = refl; size = refl }
 made (suc (suc (suc (suc (suc (suc (suc k))))))) body h =
     absurd (search (rules, and_parts))
 
@@ -55,10 +53,10 @@ pub begins :
 begins [] r b h e = absurd (omega arith)
 begins (k ∷ rest) r b h e =
     let p = read_by (is_kind k) (leb (sum (widths k)) (length rest)) _ r
-      (e ∙ ap (read_record k) (take_rest (k ∷ rest) 1)) in
+    (e ∙ ap (read_record k) (take_rest (k ∷ rest) 1)) in
     let m = subst⁻¹ (IsMade k rest) p.2 (made k rest p.0) in
     let body = bytes_numbers (widths k) 0 rest (λ i. b (suc i))
-      (omega (arith, leb-true (sum (widths k)) (length rest) p.1)) in
+    (omega (arith, leb-true (sum (widths k)) (length rest) p.1)) in
     rw (m.size, m.kind, m.fields) (ap (λ (l : List ℕ). k ∷ l) body)
 
 -- where a record is read, the reader moves on

@@ -1,10 +1,9 @@
 -- Rows of numbers in bytes: what is written by some widths is read by them, and the other way
 -- round.
-use Rattle.std.proofs.Common.{
-  ◌≡◌, ℕ, zero, suc, ◌+◌, ◌*◌, ◌/◌, ◌%◌, ◌^◌, ◌<◌, ◌≤◌, List, [], ◌∷◌, ◌++◌, length, get_or, take,
-  drop, sum, sym, refl, ap, ◌∙◌, ap₂, append_assoc, add_assoc, add-suc, arith, drop-cons,
-  drop-drop, get_or-append-add, take-add
-}
+use Rattle.std.proofs.Common.{◌≡◌, ℕ, zero, suc, ◌+◌, ◌*◌, ◌/◌, ◌%◌, ◌^◌, ◌<◌, ◌≤◌, List, [], ◌∷◌}
+use Rattle.std.proofs.Common.{◌++◌, length, get_or, take, drop, sum, sym, refl, ap, ◌∙◌, ap₂}
+use Rattle.std.proofs.Common.{append_assoc, add_assoc, add-suc, arith, drop-cons, drop-drop}
+use Rattle.std.proofs.Common.{get_or-append-add, take-add}
 use Rattle.journal.specs.Numbers.{number_at, row_at, low_bytes, row_bytes, Fit}
 use Rattle.std.proofs.lemmas.List.Sums.{sum_by-cons}
 
@@ -22,7 +21,7 @@ number_behind xs ys i zero = refl
 number_behind xs ys i (suc w) =
     ap₂ (λ (b n : ℕ). b + 256 * n) (get_or-append-add xs ys i 0)
     (ap (λ (k : ℕ). number_at (xs ++ ys) k w) (sym (add-suc (length xs) i)) ∙ number_behind xs ys
-      (suc i) w)
+    (suc i) w)
 
 numbers_behind : (ws xs ys : List ℕ) (i : ℕ) → row_at ws (xs ++ ys) (length xs + i) ≡ row_at ws ys i
 numbers_behind [] xs ys i = refl
@@ -49,7 +48,7 @@ numbers_bytes (w ∷ ws) (n ∷ ns) rest f =
     ap (λ (l : List ℕ). row_at (w ∷ ws) l 0) (append_assoc (low_bytes w n) (row_bytes ws ns) rest) ∙
     ap₂ ◌∷◌ (number_low w n tail f.0)
     (ap (row_at ws (low_bytes w n ++ tail)) offset ∙ numbers_behind ws (low_bytes w n) tail 0 ∙
-      numbers_bytes ws ns rest f.1)
+    numbers_bytes ws ns rest f.1)
 
 low_number :
     (w i : ℕ) (bs : List ℕ) → Bytes bs → i + w ≤ length bs →
@@ -70,6 +69,6 @@ bytes_numbers [] i bs b h = refl
 bytes_numbers (w ∷ ws) i bs b h =
     let more : sum (w ∷ ws) ≡ w + sum ws = sum_by-cons (λ (n : ℕ). n) w ws in
     ap₂ ◌++◌ (low_number w i bs b (omega (arith, more)))
-      (bytes_numbers ws (i + w) bs b (omega (arith, more))) ∙
+    (bytes_numbers ws (i + w) bs b (omega (arith, more))) ∙
     ap (λ (l : List ℕ). take w (drop i bs) ++ take (sum ws) l) (sym (drop-drop w i bs)) ∙
     sym (take-add w (sum ws) (drop i bs)) ∙ ap (λ (n : ℕ). take n (drop i bs)) (sym more)

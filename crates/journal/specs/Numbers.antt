@@ -3,22 +3,8 @@
 -- `number_at`, what some bytes stand for, and `row_at`, what they do as a row of numbers of given
 -- widths
 -- `low_bytes`, the bytes of a number, and `row_bytes`, those of a row of numbers of given widths
-use Rattle.std.specs.Prelude.{
-  ℕ,
-  zero,
-  suc,
-  ◌+◌,
-  ◌*◌,
-  ◌/◌,
-  ◌%◌,
-  ◌^◌,
-  ◌<◌,
-  List,
-  [],
-  ◌∷◌,
-  ◌++◌,
-  slice_index,
-}
+use Rattle.std.specs.Prelude.{ℕ, zero, suc, ◌+◌, ◌*◌, ◌/◌, ◌%◌, ◌^◌, ◌<◌, List, [], ◌∷◌, ◌++◌}
+use Rattle.std.specs.Prelude.{slice_index}
 use Rattle.std.specs.List.{AllZip}
 
 -- the number that the w bytes from offset i on stand for

@@ -4,28 +4,8 @@
 -- `read_front`, what a list of bytes begins with
 -- `answer` and `after`, what a reader at a offset answers, and where it then stands
 -- `Gives`, what a reader gives of the whole rest of a journal
-use Rattle.std.specs.Prelude.{
-  ◌≡◌,
-  ℕ,
-  ◌+◌,
-  Bool,
-  if◌then◌else◌,
-  List,
-  [],
-  ◌∷◌,
-  length,
-  drop,
-  Some,
-  None,
-  Ok,
-  Err,
-  Option,
-  Result,
-  sum,
-  ◌==◌,
-  nat_le,
-  slice_index,
-}
+use Rattle.std.specs.Prelude.{◌≡◌, ℕ, ◌+◌, Bool, if◌then◌else◌, List, [], ◌∷◌, length, drop, Some}
+use Rattle.std.specs.Prelude.{None, Ok, Err, Option, Result, sum, ◌==◌, nat_le, slice_index}
 use Rattle.std.specs.Int.{is_in_range}
 use Rattle.std.specs.Result.{result_map_both}
 use Rattle.gas.specs.declared.month.ClosingNumbers.{ClosingNumbers}

@@ -1,20 +1,6 @@
 -- The two round trips between records and bytes.
-use Rattle.std.specs.Prelude.{
-  ◌≡◌,
-  ℕ,
-  ◌+◌,
-  List,
-  ◌++◌,
-  length,
-  take,
-  drop,
-  Some,
-  Ok,
-  IfOk,
-  IfSome,
-  Option,
-  Result,
-}
+use Rattle.std.specs.Prelude.{◌≡◌, ℕ, ◌+◌, List, ◌++◌, length, take, drop, Some, Ok, IfOk, IfSome}
+use Rattle.std.specs.Prelude.{Option, Result}
 use Rattle.journal.specs.declared.faults.ReadFault.{ReadFault}
 use Rattle.journal.specs.declared.kinds.Located.{Located}
 use Rattle.journal.specs.declared.kinds.Record.{Record}

@@ -1,17 +1,6 @@
 -- What writing a record answers, and what it leaves in the caller's buffer.
-use Rattle.std.specs.Prelude.{
-  ℕ,
-  Bool,
-  if◌then◌else◌,
-  List,
-  ◌++◌,
-  length,
-  drop,
-  Ok,
-  Err,
-  Result,
-  nat_le,
-}
+use Rattle.std.specs.Prelude.{ℕ, Bool, if◌then◌else◌, List, ◌++◌, length, drop, Ok, Err, Result}
+use Rattle.std.specs.Prelude.{nat_le}
 use Rattle.journal.specs.declared.faults.WriteFault.{WriteFault}
 use Rattle.journal.specs.declared.faults.WriteFault.TheVariants.{BufferTooShort}
 use Rattle.journal.specs.declared.kinds.Record.{Record}

@@ -1,13 +1,7 @@
 //! Writing records at the start of a caller's buffer.
 ghost use Rattle.std.specs.Prelude.{◌≡◌, ◌∷◌, take, IfOk};
-ghost use Rattle.journal.specs.Format.{
-  bytes_of_day,
-  close_widths,
-  day_fields,
-  day_widths,
-  fields_of,
-  record_bytes,
-};
+ghost use Rattle.journal.specs.Format.{bytes_of_day, close_widths, day_fields, day_widths};
+ghost use Rattle.journal.specs.Format.{fields_of, record_bytes};
 ghost use Rattle.journal.specs.Numbers.{Fit};
 ghost use Rattle.journal.specs.declared.kinds.Record.TheVariants.{Open, Close, Pay, Settle};
 ghost use Rattle.journal.specs.RoundTrips.{ReadsBack};

@@ -1,31 +1,7 @@
 -- The six calls of an account, and the one outcome of each.
-use Rattle.std.specs.Prelude.{
-  ℕ,
-  ◌+◌,
-  Bool,
-  if◌then◌else◌,
-  not,
-  ◌&&◌,
-  List,
-  [],
-  ◌∷◌,
-  ◌++◌,
-  length,
-  map,
-  pos,
-  neg_ℤ,
-  is_some,
-  Some,
-  None,
-  Ok,
-  Err,
-  Result,
-  ◌==◌,
-  nat_le,
-  nat_lt,
-  slice_index_or,
-  slice_set,
-}
+use Rattle.std.specs.Prelude.{ℕ, ◌+◌, Bool, if◌then◌else◌, not, ◌&&◌, List, [], ◌∷◌, ◌++◌, length}
+use Rattle.std.specs.Prelude.{map, pos, neg_ℤ, is_some, Some, None, Ok, Err, Result, ◌==◌, nat_le}
+use Rattle.std.specs.Prelude.{nat_lt, slice_index_or, slice_set}
 use Rattle.std.specs.Int.{is_in_range}
 use Rattle.std.specs.List.{push}
 use Rattle.std.specs.Result.{result_map_both}
@@ -49,17 +25,8 @@ use Rattle.ledger.specs.Days.{Places, is_complete, place_of}
 use Rattle.ledger.specs.Due.{lines_due_in}
 use Rattle.ledger.specs.Headings.{line_of}
 use Rattle.gas.specs.Tariffs.{Tariff}
-use Rattle.ledger.specs.Year.{
-  Opening,
-  Settlement,
-  Year,
-  is_opened,
-  is_settled,
-  opening_of,
-  running,
-  settled,
-  unknown_year,
-}
+use Rattle.ledger.specs.Year.{Opening, Settlement, Year, is_opened, is_settled, opening_of, running}
+use Rattle.ledger.specs.Year.{settled, unknown_year}
 
 -- a call with its numbers as they came, lawful or not
 pub data Call : Type 0 where

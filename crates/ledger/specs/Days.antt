@@ -2,32 +2,9 @@
 -- Words:
 -- a place, where a day's record stands or does not stand: 31 for each month, in the order of dates
 -- a day is posted where its place has a record
-use Rattle.std.specs.Prelude.{
-  ◌≡◌,
-  ℕ,
-  ◌+◌,
-  ◌-◌,
-  ◌*◌,
-  ◌≤◌,
-  Bool,
-  if◌then◌else◌,
-  ◌&&◌,
-  List,
-  length,
-  take,
-  drop,
-  ℤ,
-  pos,
-  ◌-ℤ◌,
-  Some,
-  None,
-  sum_by,
-  Option,
-  ◌==◌,
-  nat_le,
-  nat_lt,
-  false,
-}
+use Rattle.std.specs.Prelude.{◌≡◌, ℕ, ◌+◌, ◌-◌, ◌*◌, ◌≤◌, Bool, if◌then◌else◌, ◌&&◌, List, length}
+use Rattle.std.specs.Prelude.{take, drop, ℤ, pos, ◌-ℤ◌, Some, None, sum_by, Option, ◌==◌, nat_le}
+use Rattle.std.specs.Prelude.{nat_lt, false}
 use Rattle.std.specs.List.{flat_map, position}
 use Rattle.std.specs.Option.{option_to_list}
 use Rattle.gas.specs.declared.day.DayRecord.{DayRecord}

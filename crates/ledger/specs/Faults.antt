@@ -3,20 +3,11 @@ use Rattle.std.specs.Prelude.{ℕ, Some, None, Option}
 use Rattle.gas.specs.declared.items.PriceValues.{PriceValues}
 use Rattle.gas.specs.Faults.{input_number, schedule_values}
 use Rattle.ledger.specs.declared.faults.AccountFault.{AccountFault}
-use Rattle.ledger.specs.declared.faults.AccountFault.TheVariants.{
-  Input,
-  NotOpened,
-  OpenedAlready,
-  PostedAlready,
-  NotPosted,
-  NotEarliest,
-  LacksDay,
-  SettledAlready,
-  InterimOpen,
-  Schedule,
-  NoRoom,
-  NoLine,
-}
+use Rattle.ledger.specs.declared.faults.AccountFault.TheVariants.{Input, NotOpened, OpenedAlready}
+use Rattle.ledger.specs.declared.faults.AccountFault.TheVariants.{PostedAlready, NotPosted}
+use Rattle.ledger.specs.declared.faults.AccountFault.TheVariants.{NotEarliest, LacksDay}
+use Rattle.ledger.specs.declared.faults.AccountFault.TheVariants.{SettledAlready, InterimOpen}
+use Rattle.ledger.specs.declared.faults.AccountFault.TheVariants.{Schedule, NoRoom, NoLine}
 
 -- 28 comes with the month, the item and the layer at which the amount passed its limit; the others
 -- with nothing

@@ -2,28 +2,8 @@
 -- Words:
 -- a history, the calls so far with their answers, the newest first
 -- a run, what a new account has become by a history
-use Rattle.std.specs.Prelude.{
-  ◌≡◌,
-  ℕ,
-  ◌<◌,
-  ◌≤◌,
-  true,
-  false,
-  if◌then◌else◌,
-  List,
-  [],
-  ◌∷◌,
-  length,
-  ℤ,
-  ◌+ℤ◌,
-  Some,
-  None,
-  Ok,
-  Option,
-  ◌==◌,
-  is_some,
-  slice_index_or,
-}
+use Rattle.std.specs.Prelude.{◌≡◌, ℕ, ◌<◌, ◌≤◌, true, false, if◌then◌else◌, List, [], ◌∷◌, length}
+use Rattle.std.specs.Prelude.{ℤ, ◌+ℤ◌, Some, None, Ok, Option, ◌==◌, is_some, slice_index_or}
 use Rattle.std.specs.Int.{int_min}
 use Rattle.std.specs.Result.{result_err, result_unwrap_or}
 use Rattle.gas.specs.declared.day.DayRecord.{DayRecord}
@@ -35,27 +15,13 @@ use Rattle.ledger.specs.declared.lines.Heading.TheVariants.{Priced, Refund}
 use Rattle.ledger.specs.declared.lines.Line.{Line}
 use Rattle.ledger.specs.Calls.{Call, State, year_after, outcome}
 use Rattle.ledger.specs.Days.{IsDayPlace, net_therms, posted_in}
-use Rattle.ledger.specs.Headings.{
-  heading_item,
-  heading_month,
-  money_on,
-  sum_under,
-  sum_where,
-  therms_on,
-}
+use Rattle.ledger.specs.Headings.{heading_item, heading_month, money_on, sum_under, sum_where}
+use Rattle.ledger.specs.Headings.{therms_on}
 use Rattle.gas.specs.Tariffs.{Tariff}
 use Rattle.ledger.specs.Prices.{open_therms, price_at, price_of}
 use Rattle.ledger.specs.Sums.{sum_z}
-use Rattle.ledger.specs.Year.{
-  Opening,
-  Settlement,
-  Year,
-  interim_months,
-  is_interim,
-  is_opened,
-  settled,
-  unknown_year,
-}
+use Rattle.ledger.specs.Year.{Opening, Settlement, Year, interim_months, is_interim, is_opened}
+use Rattle.ledger.specs.Year.{settled, unknown_year}
 use Rattle.gas.specs.declared.calendar.TheConstants.{LAST_MONTH}
 
 -- a call and its answer: none if it was accepted, else the refusal

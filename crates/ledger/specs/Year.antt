@@ -1,19 +1,6 @@
 -- The year as it is known from the calls that were accepted.
-use Rattle.std.specs.Prelude.{
-  ◌≡◌,
-  ℕ,
-  ◌+◌,
-  ◌-◌,
-  ◌<◌,
-  Bool,
-  true,
-  false,
-  List,
-  [],
-  length,
-  replicate,
-  None,
-}
+use Rattle.std.specs.Prelude.{◌≡◌, ℕ, ◌+◌, ◌-◌, ◌<◌, Bool, true, false, List, [], length, replicate}
+use Rattle.std.specs.Prelude.{None}
 use Rattle.std.specs.Int.{is_in_range}
 use Rattle.std.specs.List.{filter, range_with_len}
 use Rattle.gas.specs.declared.month.ClosingNumbers.{ClosingNumbers}

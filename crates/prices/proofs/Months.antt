@@ -1,8 +1,6 @@
 -- The days of a month, made one after another.
-use Rattle.std.proofs.Common.{
-  ◌≡◌, ℕ, zero, suc, ◌+◌, ◌-◌, ◌≤◌, List, [], ◌∷◌, ◌++◌, length, map, Ok, refl, sym, ap, ◌∙◌,
-  add-one, arith
-}
+use Rattle.std.proofs.Common.{◌≡◌, ℕ, zero, suc, ◌+◌, ◌-◌, ◌≤◌, List, [], ◌∷◌, ◌++◌, length, map}
+use Rattle.std.proofs.Common.{Ok, refl, sym, ap, ◌∙◌, add-one, arith}
 use Rattle.std.proofs.lemmas.List.{length-append, length-map, map_push}
 use Rattle.gas.specs.declared.day.DayNumbers.{DayNumbers}
 use Rattle.gas.specs.declared.day.DayRecord.{DayRecord}
@@ -19,9 +17,9 @@ one_more :
     map numbers_of more ≡ days_to pattern (i + 1)
 one_more pattern i days more d n sofar is made m =
     ap (map numbers_of) m ∙ map_push numbers_of days d ∙ ap
-      (λ (ns : List DayNumbers). ns ++ (numbers_of d ∷ [])) sofar ∙
+    (λ (ns : List DayNumbers). ns ++ (numbers_of d ∷ [])) sofar ∙
     ap (λ (x : DayNumbers). days_to pattern i ++ (x ∷ []))
-      (day_made_of n (numbers_of d) made ∙ is ∙ ap (day_of pattern) (add-one i)) ∙
+    (day_made_of n (numbers_of d) made ∙ is ∙ ap (day_of pattern) (add-one i)) ∙
     ap (days_to pattern) (sym (add-one i))
 
 -- the day numbered k, counted from 1, behind those before it
@@ -34,7 +32,7 @@ kth_day pattern k days more d n from sofar is made m =
     let before : k - 1 + 1 ≡ k = omega arith in
     let here : k - 1 + 1 ≡ k + 1 - 1 = omega arith in
     one_more pattern (k - 1) days more d n sofar (is ∙ ap (day_of pattern) (sym before)) made m ∙ ap
-      (days_to pattern) here
+    (days_to pattern) here
 
 counted : (pattern : Pattern) (n : ℕ) → length (days_to pattern n) ≡ n
 counted pattern zero = refl

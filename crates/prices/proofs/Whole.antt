@@ -1,16 +1,14 @@
 -- The months of the cases by their facts, and the texts put together.
-use Rattle.std.proofs.Common.{
-  ◌≡◌, ℕ, List, [], ◌++◌, map, codes, Some, None, Ok, Option, ap, ◌∙◌, append_assoc
-}
+use Rattle.std.proofs.Common.{◌≡◌, ℕ, List, [], ◌++◌, map, codes, Some, None, Ok, Option, ap, ◌∙◌}
+use Rattle.std.proofs.Common.{append_assoc}
 use Rattle.gas.specs.declared.day.DayRecord.{DayRecord}
 use Rattle.gas.specs.declared.facts.MonthNumbers.{MonthNumbers}
 use Rattle.gas.specs.Day.{numbers_of}
 use Rattle.gas.specs.Facts.{MonthFacts, checked_facts, tests_of_facts}
 use Rattle.gas.specs.Inputs.{first_failure, answer_unless}
 use Rattle.prices.specs.declared.days.Pattern.{Pattern}
-use Rattle.prices.specs.Months.{
-  Grows, IsMonth, PrintsAll, PrintsFull, PrintsMixed, PrintsSpring, PrintsStacked
-}
+use Rattle.prices.specs.Months.{Grows, IsMonth, PrintsAll, PrintsFull, PrintsMixed, PrintsSpring}
+use Rattle.prices.specs.Months.{PrintsStacked}
 use Rattle.prices.specs.Patterns.{days_to}
 use Rattle.prices.specs.Rows.{header}
 
@@ -25,9 +23,11 @@ pub is_month :
     map numbers_of days ≡ days_to pattern n → IsMonth numbers pattern n f
 is_month numbers days pattern n f taken are =
     let same : f ≡ record { numbers = numbers; days = days } = passed
-      (first_failure (tests_of_facts (record { numbers = numbers; days = days }))) f _ taken in
-    (ap (λ (x : MonthFacts). x.numbers) same, ap (λ (x : MonthFacts). map numbers_of x.days) same ∙
-      are)
+    (first_failure (tests_of_facts (record { numbers = numbers; days = days }))) f _ taken in (
+      ap (λ (x : MonthFacts). x.numbers) same,
+      ap (λ (x : MonthFacts). map numbers_of x.days) same ∙
+          are,
+    )
 
 -- a text that was empty, grown by the header and then by all cases
 pub all_printed :
@@ -35,6 +35,15 @@ pub all_printed :
     Grows PrintsMixed head one → Grows PrintsFull one two → Grows PrintsSpring two three →
     Grows PrintsStacked three four → PrintsAll four
 all_printed none head one two three four empty first (mixed, is_mixed, e1) (full, is_full, e2)
-  (spring, is_spring, e3) (stacked, is_stacked, e4) =
-    (mixed, full, spring, stacked, is_mixed, is_full, is_spring, is_stacked, rw
-      (e4, e3, e2, e1, first, empty) (simp append_assoc))
+    (spring, is_spring, e3) (stacked, is_stacked, e4) = (
+      mixed,
+      full,
+      spring,
+      stacked,
+      is_mixed,
+      is_full,
+      is_spring,
+      is_stacked,
+      rw
+          (e4, e3, e2, e1, first, empty) (simp append_assoc),
+    )

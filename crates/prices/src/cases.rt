@@ -1,24 +1,11 @@
 //! The cases: months of days on schedules.
 ghost use Rattle.std.specs.Prelude.{◌≡◌, ◌++◌, Ok, IfOk, OnOk, string_bytes};
 ghost use Rattle.gas.specs.Facts.{checked_facts, facts_of};
-ghost use Rattle.prices.specs.Months.{
-  Grows,
-  PrintsAll,
-  PrintsFull,
-  PrintsMixed,
-  PrintsSpring,
-  PrintsStacked,
-};
-ghost use Rattle.prices.specs.Cases.{
-  dual_fuel_text,
-  firm_and_tolerance_text,
-  mixed_text,
-  refusals_text,
-  riders_on_riders_text,
-  riders_text,
-  seasons_text,
-  stacks_text,
-};
+ghost use Rattle.prices.specs.Months.{Grows, PrintsAll, PrintsFull, PrintsMixed, PrintsSpring};
+ghost use Rattle.prices.specs.Months.{PrintsStacked};
+ghost use Rattle.prices.specs.Cases.{dual_fuel_text, firm_and_tolerance_text, mixed_text};
+ghost use Rattle.prices.specs.Cases.{refusals_text, riders_on_riders_text, riders_text};
+ghost use Rattle.prices.specs.Cases.{seasons_text, stacks_text};
 
 use crate::days::Pattern;
 use crate::tables::{head, table};

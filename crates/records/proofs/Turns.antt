@@ -1,8 +1,6 @@
 -- What the listing's loop keeps from record to record.
-use Rattle.std.proofs.Common.{
-  ◌≡◌, ℕ, ◌+◌, ◌≤◌, List, [], ◌∷◌, ◌++◌, length, Some, None, Ok, Err, codes, Option, sym, ap, ◌∙◌,
-  subst, append_assoc, append-nil, arith
-}
+use Rattle.std.proofs.Common.{◌≡◌, ℕ, ◌+◌, ◌≤◌, List, [], ◌∷◌, ◌++◌, length, Some, None, Ok, Err}
+use Rattle.std.proofs.Common.{codes, Option, sym, ap, ◌∙◌, subst, append_assoc, append-nil, arith}
 use Rattle.journal.specs.declared.faults.ReadFault.{ReadFault}
 use Rattle.journal.specs.declared.kinds.Located.{Located}
 use Rattle.journal.specs.Reading.{answer_at, offset_after, Gives}
@@ -14,14 +12,22 @@ use Rattle.records.specs.Rows.{row_text, refusal_text, listing_text, Lists}
 unfoldable pub Sofar : List ℕ → List ℕ → List ℕ → ℕ → ℕ → Type 0
 Sofar bs rs text i k =
     (rs ≡ bs) × (k ≤ i + 1) × ((ps : List Located) (end : Option ReadFault) → Gives rs i ps end →
-      Lists bs (text ++ listing_text k ps end))
+    Lists bs (text ++ listing_text k ps end))
 
 pub start :
     (bs rs text : List ℕ) (i k : ℕ) → rs ≡ bs → text ≡ [] → i ≡ 0 → k ≡ 1 → Sofar bs rs text i k
 unfolding Sofar
-start bs rs text i k same none first one =
-    (same, omega arith, λ ps end h. (ps, end, subst (λ (b : List ℕ). Gives b 0 ps end) same
-      (subst (λ (n : ℕ). Gives rs n ps end) first h), rw (none, one)))
+start bs rs text i k same none first one = (
+  same,
+  omega arith,
+  λ ps end h. (
+    ps,
+    end,
+    subst (λ (b : List ℕ). Gives b 0 ps end) same
+        (subst (λ (n : ℕ). Gives rs n ps end) first h),
+    rw (none, one),
+  ),
+)
 
 module _ (bs rs text : List ℕ) (i k : ℕ) where
   pub few : Sofar bs rs text i k → i ≤ length rs → k ≤ length bs + 1
@@ -43,11 +49,17 @@ module _ (bs rs text : List ℕ) (i k : ℕ) where
       answer_at rs i ≡ Ok (Some p) → more ≡ text ++ (row_text k p ++ codes "\n") → rs' ≡ rs →
       j ≡ offset_after rs i → l ≡ k + 1 → Sofar bs rs' more j l
   unfolding Sofar
-  one_more more rs' j l p s e m same on next =
-      (same ∙ s.0, omega (arith, moves_on rs i p e), λ ps end h. rw (m, next)
+  one_more more rs' j l p s e m same on next = (
+    same ∙ s.0,
+    omega (arith, moves_on rs i p e),
+    λ ps end h. rw (m, next)
         (subst (Lists bs) (joins (listing_text (k + 1) ps end))
-          (s.2 (p ∷ ps) end (e, subst (λ (n : ℕ). Gives rs n ps end) on
-            (subst (λ (b : List ℕ). Gives b j ps end) same h)))))
+        (s.2 (p ∷ ps) end (
+          e,
+          subst (λ (n : ℕ). Gives rs n ps end) on
+              (subst (λ (b : List ℕ). Gives b j ps end) same h),
+        ))),
+  )
     where
       joins :
           (l : List ℕ) →

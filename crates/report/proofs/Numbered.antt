@@ -1,8 +1,6 @@
 -- The rows of lines, written one after another.
-use Rattle.std.proofs.Common.{
-  ◌≡◌, ℕ, ◌+◌, List, ◌∷◌, ◌++◌, Some, None, Ok, codes, Option, refl, sym, ap, ◌∙◌, append_assoc,
-  add-one
-}
+use Rattle.std.proofs.Common.{◌≡◌, ℕ, ◌+◌, List, ◌∷◌, ◌++◌, Some, None, Ok, codes, Option, refl}
+use Rattle.std.proofs.Common.{sym, ap, ◌∙◌, append_assoc, add-one}
 use Rattle.std.proofs.Math.ListN.{drop}
 use Rattle.std.proofs.Math.Seq.{drop-cons}
 use Rattle.std.proofs.lemmas.Option.{get_or_from_slice_get, slice_get_within}
@@ -33,4 +31,4 @@ pub one_more :
 one_more lines start text more i line sofar is m =
     let here : slice_get lines i ≡ Some line = was_found _ line (rw add-one at is) in
     rw m (append_assoc text _ _ ∙ ap (λ t. text ++ t) (append_assoc (line_text (i + 1) line) _ _) ∙
-      ap (λ ls. text ++ lines_text (i + 1) ls) (sym (rest_from lines i line here)) ∙ sofar)
+    ap (λ ls. text ++ lines_text (i + 1) ls) (sym (rest_from lines i line here)) ∙ sofar)

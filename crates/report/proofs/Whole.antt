@@ -17,7 +17,7 @@ pub played_is_printed :
     PrintsPlayed bytes text
 played_is_printed s bytes none some text a b refusals tariff new played empty first then =
     let on_it : Played fixed_tariff bytes a b refusals = subst
-      (λ (t : Tariff). Played t bytes a b refusals) tariff played in
+    (λ (t : Tariff). Played t bytes a b refusals) tariff played in
     let from_new : Played fixed_tariff bytes new_state b refusals = subst
-      (λ (x : State). Played fixed_tariff bytes x b refusals) new on_it in
+    (λ (x : State). Played fixed_tariff bytes x b refusals) new on_it in
     (b, refusals, from_new, rw (then, first, empty) refl)

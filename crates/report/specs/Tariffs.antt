@@ -2,13 +2,8 @@
 use Rattle.std.specs.Prelude.{ℕ}
 use Rattle.gas.specs.Tariffs.{Tariff}
 use Rattle.pipelines.specs.Northern.{northern_day, northern_month}
-use Rattle.riders.specs.Riders.{
-  franchise_charge,
-  franchise_row,
-  interim_charge,
-  interim_row,
-  tariff_with_rider,
-}
+use Rattle.riders.specs.Riders.{franchise_charge, franchise_row, interim_charge, interim_row}
+use Rattle.riders.specs.Riders.{tariff_with_rider}
 use Rattle.classes.specs.Classes.{class_tariff, small_row}
 
 -- the therms that the site uses in a year

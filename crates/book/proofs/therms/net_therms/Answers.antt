@@ -7,5 +7,11 @@ pub add_assign-requires : goal.add_assign-requires
 add_assign-requires c =
     let before = take c.loop-day.day-index c.args.days.now in
     let few = length-take c.loop-day.day-index c.args.days.now in
-    omega (arith, ints, month_received before (omega arith), month_metered before (omega arith),
-      c.day-item.result.received, c.day-item.result.metered)
+    omega (
+      arith,
+      ints,
+      month_received before (omega arith),
+      month_metered before (omega arith),
+      c.day-item.result.received,
+      c.day-item.result.metered,
+    )

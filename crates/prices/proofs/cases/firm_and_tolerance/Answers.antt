@@ -5,5 +5,9 @@ use Rattle.prices.specs.Cases.{firm_and_tolerance_text}
 pub returns : goal.returns
 unfolding firm_and_tolerance_text
 returns c =
-    rw (c.in_ok-table-4.ensures, c.in_ok-table-3.ensures, c.in_ok-table-2.ensures,
-      c.in_ok-table.ensures) (simp append_assoc)
+    rw (
+      c.in_ok-table-4.ensures,
+      c.in_ok-table-3.ensures,
+      c.in_ok-table-2.ensures,
+      c.in_ok-table.ensures,
+    ) (simp append_assoc)

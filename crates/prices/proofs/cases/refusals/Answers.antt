@@ -3,6 +3,14 @@ use Rattle.prices.proofs.cases.refusals.Goals as goal
 
 pub returns : goal.returns
 returns c =
-    rw (c.in_ok-table-3.ensures, c.in_ok-table-2.ensures, c.in_ok-table.ensures,
-      c.on-3.ensures.rider, c.on-3.ensures.below, c.on-2.ensures.rider, c.on-interim.ensures.below,
-        c.on.ensures.rider, c.large.ensures) (simp append_assoc)
+    rw (
+      c.in_ok-table-3.ensures,
+      c.in_ok-table-2.ensures,
+      c.in_ok-table.ensures,
+      c.on-3.ensures.rider,
+      c.on-3.ensures.below,
+      c.on-2.ensures.rider,
+      c.on-interim.ensures.below,
+      c.on.ensures.rider,
+      c.large.ensures,
+    ) (simp append_assoc)

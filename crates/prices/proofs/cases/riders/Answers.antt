@@ -5,8 +5,21 @@ use Rattle.prices.specs.Cases.{riders_text}
 pub returns : goal.returns
 unfolding riders_text
 returns c =
-    rw (c.in_ok-table-5.ensures, c.in_ok-table-4.ensures, c.in_ok-table-3.ensures,
-      c.in_ok-table-2.ensures, c.in_ok-table.ensures, c.on-3.ensures.rider, c.on-3.ensures.below,
-        c.on-2.ensures.rider, c.on-2.ensures.below, c.on.ensures.below, c.on-weather.ensures.rider,
-          c.on-weather.ensures.below, c.small.ensures, c.small-2.ensures, c.small-3.ensures,
-            c.small-4.ensures) (simp append_assoc)
+    rw (
+      c.in_ok-table-5.ensures,
+      c.in_ok-table-4.ensures,
+      c.in_ok-table-3.ensures,
+      c.in_ok-table-2.ensures,
+      c.in_ok-table.ensures,
+      c.on-3.ensures.rider,
+      c.on-3.ensures.below,
+      c.on-2.ensures.rider,
+      c.on-2.ensures.below,
+      c.on.ensures.below,
+      c.on-weather.ensures.rider,
+      c.on-weather.ensures.below,
+      c.small.ensures,
+      c.small-2.ensures,
+      c.small-3.ensures,
+      c.small-4.ensures,
+    ) (simp append_assoc)

@@ -5,10 +5,27 @@ use Rattle.prices.specs.Cases.{riders_on_riders_text}
 pub returns : goal.returns
 unfolding riders_on_riders_text
 returns c =
-    rw (c.in_ok-table-4.ensures, c.in_ok-table-3.ensures, c.in_ok-table-2.ensures,
-      c.in_ok-table.ensures, c.on-7.ensures.rider, c.on-7.ensures.below, c.on-6.ensures.rider,
-        c.on-6.ensures.below, c.on-5.ensures.below, c.on-4.ensures.rider, c.on-4.ensures.below,
-          c.on-3.ensures.below, c.on-all_but_franchise.ensures.below, c.on-2.ensures.rider,
-            c.on-2.ensures.below, c.on.ensures.rider, c.on.ensures.below,
-              c.on-franchise.ensures.rider, c.on-franchise.ensures.below, c.small.ensures,
-                c.small-2.ensures, c.small-3.ensures) (simp append_assoc)
+    rw (
+      c.in_ok-table-4.ensures,
+      c.in_ok-table-3.ensures,
+      c.in_ok-table-2.ensures,
+      c.in_ok-table.ensures,
+      c.on-7.ensures.rider,
+      c.on-7.ensures.below,
+      c.on-6.ensures.rider,
+      c.on-6.ensures.below,
+      c.on-5.ensures.below,
+      c.on-4.ensures.rider,
+      c.on-4.ensures.below,
+      c.on-3.ensures.below,
+      c.on-all_but_franchise.ensures.below,
+      c.on-2.ensures.rider,
+      c.on-2.ensures.below,
+      c.on.ensures.rider,
+      c.on.ensures.below,
+      c.on-franchise.ensures.rider,
+      c.on-franchise.ensures.below,
+      c.small.ensures,
+      c.small-2.ensures,
+      c.small-3.ensures,
+    ) (simp append_assoc)

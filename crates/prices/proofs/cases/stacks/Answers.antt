@@ -3,9 +3,24 @@ use Rattle.prices.proofs.cases.stacks.Goals as goal
 
 pub returns : goal.returns
 returns c =
-    rw (c.in_ok-table-4.ensures, c.in_ok-table-3.ensures, c.in_ok-table-2.ensures,
-      c.in_ok-table.ensures, c.on-4.ensures.rider, c.on-3.ensures.rider, c.on-3.ensures.below,
-        c.on-2.ensures.below, c.on.ensures.rider, c.on.ensures.below, c.on-weather.ensures.rider,
-          c.on-weather.ensures.below, c.on-interim.ensures.below, c.on-affordability.ensures.rider,
-            c.on-affordability.ensures.below, c.small.ensures, c.small-2.ensures, c.small-3.ensures,
-              c.large.ensures) (simp append_assoc)
+    rw (
+      c.in_ok-table-4.ensures,
+      c.in_ok-table-3.ensures,
+      c.in_ok-table-2.ensures,
+      c.in_ok-table.ensures,
+      c.on-4.ensures.rider,
+      c.on-3.ensures.rider,
+      c.on-3.ensures.below,
+      c.on-2.ensures.below,
+      c.on.ensures.rider,
+      c.on.ensures.below,
+      c.on-weather.ensures.rider,
+      c.on-weather.ensures.below,
+      c.on-interim.ensures.below,
+      c.on-affordability.ensures.rider,
+      c.on-affordability.ensures.below,
+      c.small.ensures,
+      c.small-2.ensures,
+      c.small-3.ensures,
+      c.large.ensures,
+    ) (simp append_assoc)

@@ -6,9 +6,9 @@ use Rattle.report.proofs.printing.played.Goals as goal
 pub returns : goal.returns
 returns c =
     let first : string_bytes c.write_refusals.new.text ≡ string_bytes c.new-text.result ++
-      refusals_text c.in_ok-refusals.refusals.items = rw
-        (← c.deref.ensures.value) c.in_ok-write_refusals.ensures in
+    refusals_text c.in_ok-refusals.refusals.items = rw
+    (← c.deref.ensures.value) c.in_ok-write_refusals.ensures in
     played_is_printed _ _ (string_bytes c.new-text.result)
-      (string_bytes c.write_refusals.new.text) _ _ _ _ (rw c.new-account.ensures c.schedule.ensures)
-        (ap (λ a. a.state) c.new-account.ensures) c.in_ok-refusals.ensures.played
-          c.new-text.ensures.bytes first c.in_ok-write_account.ensures
+    (string_bytes c.write_refusals.new.text) _ _ _ _ (rw c.new-account.ensures c.schedule.ensures)
+    (ap (λ a. a.state) c.new-account.ensures) c.in_ok-refusals.ensures.played
+    c.new-text.ensures.bytes first c.in_ok-write_account.ensures

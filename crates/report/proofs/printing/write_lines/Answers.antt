@@ -6,7 +6,7 @@ use Rattle.report.proofs.printing.write_lines.Goals as goal
 pub loop-index-preserved : goal.loop-index-preserved
 loop-index-preserved g c =
     let is : line_numbered c.args.account.now.state.lines
-      (c.loop-index.index + 1) ≡ Ok c.unwrap-line.result = cc in
+    (c.loop-index.index + 1) ≡ Ok c.unwrap-line.result = cc in
     one_more c.args.account.now.state.lines _ (string_bytes c.loop-index.text)
-      (string_bytes c.writeln.new.self) c.loop-index.index c.unwrap-line.result
-        c.loop-index.invariant is c.in_ok-writeln.ensures.bytes
+    (string_bytes c.writeln.new.self) c.loop-index.index c.unwrap-line.result
+    c.loop-index.invariant is c.in_ok-writeln.ensures.bytes

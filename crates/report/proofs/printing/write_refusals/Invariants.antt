@@ -5,4 +5,4 @@ use Rattle.report.proofs.printing.write_refusals.Given as goal
 abbrev pub invariant-loop-refusal : goal.invariant-loop-refusal
 invariant-loop-refusal l =
     string_bytes l.text ++ refusals_text (drop l.refusal-index l.refusals) ≡ string_bytes
-      l.initial.text ++ refusals_text l.refusals
+    l.initial.text ++ refusals_text l.refusals

@@ -8,16 +8,16 @@ pub returns-in_err-leap-in-Open-NotOpened : goal.returns-in_err-leap-in-Open-Not
 returns-in_err-leap-in-Open-NotOpened g c =
     let arm = c.in-Open-NotOpened in
     opening_refused c.self.view_is arm.is-1 arm.leap
-      (record { increase = arm.increase; first = arm.first; last = arm.last }) arm.is-0
+    (record { increase = arm.increase; first = arm.first; last = arm.last }) arm.is-0
     c.from_residual.ensures.0 c.from_residual.ensures.1
-      c.in_err-leap-in-Open-NotOpened.ensures.refused
+    c.in_err-leap-in-Open-NotOpened.ensures.refused
 
 pub returns-in_ok-leap-in-Open-NotOpened : goal.returns-in_ok-leap-in-Open-NotOpened
 returns-in_ok-leap-in-Open-NotOpened g c =
     let arm = c.in-Open-NotOpened in
     let told = c.in_ok-leap-in-Open-NotOpened.ensures in
     opens c.self.view_is arm.is-1 arm.leap (record
-      { increase = arm.increase; first = arm.first; last = arm.last }) arm.is-0
+    { increase = arm.increase; first = arm.first; last = arm.last }) arm.is-0
     told.refused told.leap told.terms c.begin.ensures.is c.begin.ensures.room
 
 pub returns-in-Open-Running : goal.returns-in-Open-Running
@@ -52,25 +52,25 @@ pub returns-in_err-settlement-in-Settle-Running : goal.returns-in_err-settlement
 returns-in_err-settlement-in-Settle-Running g c =
     let arm = c.in-Settle-Running in
     settlement_refused _ c.self.view_is (rw arm.is-1 refl)
-      (record { final_increase = arm.final_increase; interest = arm.interest }) arm.is-0
+    (record { final_increase = arm.final_increase; interest = arm.interest }) arm.is-0
     c.from_residual-in_err-settlement-in-Settle-Running.ensures.0
-      c.from_residual-in_err-settlement-in-Settle-Running.ensures.1
-        c.in_err-settlement-in-Settle-Running.ensures.refused
+    c.from_residual-in_err-settlement-in-Settle-Running.ensures.1
+    c.in_err-settlement-in-Settle-Running.ensures.refused
 
 pub returns-in_err-settlement_terms-in-Settle-Settled :
     goal.returns-in_err-settlement_terms-in-Settle-Settled
 returns-in_err-settlement_terms-in-Settle-Settled g c =
     let arm = c.in-Settle-Settled in
     settlement_refused _ c.self.view_is (rw arm.is-1 refl)
-      (record { final_increase = arm.final_increase; interest = arm.interest }) arm.is-0
+    (record { final_increase = arm.final_increase; interest = arm.interest }) arm.is-0
     c.from_residual-in_err-settlement_terms-in-Settle-Settled.ensures.0
-      c.from_residual-in_err-settlement_terms-in-Settle-Settled.ensures.1
-        c.in_err-settlement_terms-in-Settle-Settled.ensures.refused
+    c.from_residual-in_err-settlement_terms-in-Settle-Settled.ensures.1
+    c.in_err-settlement_terms-in-Settle-Settled.ensures.refused
 
 pub returns-in_ok-settlement_terms-in-Settle-Settled :
     goal.returns-in_ok-settlement_terms-in-Settle-Settled
 returns-in_ok-settlement_terms-in-Settle-Settled g c =
     let arm = c.in-Settle-Settled in
     settled_already _ c.self.view_is (rw arm.is-1 refl)
-      (record { final_increase = arm.final_increase; interest = arm.interest }) arm.is-0
+    (record { final_increase = arm.final_increase; interest = arm.interest }) arm.is-0
     c.in_ok-settlement_terms-in-Settle-Settled.ensures.refused (rw arm.is-1 refl)

@@ -10,4 +10,4 @@ returns-clause-law g c = runs_add_up
 pub returns-clause-adds_up : goal.returns-clause-adds_up
 returns-clause-adds_up g c =
     λ h run. rw (c.open_therms.ensures ∙ ap (λ (a : Holding _). open_therms a.state.year)
-      c.self.view_is) (runs_add_up _ h c.args.self.now.state run)
+    c.self.view_is) (runs_add_up _ h c.args.self.now.state run)

@@ -8,6 +8,6 @@ invariant-loop-number g l = record {
   schedule : l.self.schedule ≡ l.fn.self.schedule;
   turn :
       Sofar (g.S.Schedule.tariff l.fn.self.schedule) l.journal l.reader.bytes.now l.fn.self.state
-        l.self.state l.refusals.items (vec_len l.refusals)
-          (vec_capacity l.refusals) l.reader.at l.number-iterator.start;
+      l.self.state l.refusals.items (vec_len l.refusals)
+      (vec_capacity l.refusals) l.reader.at l.number-iterator.start;
 }

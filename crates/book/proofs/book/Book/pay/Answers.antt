@@ -4,16 +4,17 @@ use Rattle.book.proofs.Payments.{no_room_to_pay, paid, payment_refused}
 use Rattle.book.proofs.book.Book.pay.Goals as goal
 
 pub returns-in_err-line-clause-is : goal.returns-in_err-line-clause-is
-returns-in_err-line-clause-is c = λ s t opened.
-    handed_on c.from_residual.result _ _ _ c.from_residual.ensures.0 c.from_residual.ensures.1
-      (payment_refused _ _ c.args.self.now refl _ s t opened _ _ c.in_err-line.ensures)
+returns-in_err-line-clause-is c =
+    λ s t opened. handed_on c.from_residual.result _ c.from_residual.ensures.0
+    c.from_residual.ensures.1 (payment_refused {b = c.args.self.now} refl _ s t opened _
+    c.in_err-line.ensures)
 
 pub returns-then-room-eq0-clause-is : goal.returns-then-room-eq0-clause-is
 returns-then-room-eq0-clause-is c =
-    λ s t opened. no_room_to_pay _ _ _ c.self.view_is _ s t opened _ _ c.in_ok-line.ensures refl _
-      c.room.ensures c.if-room-eq0.true
+    λ s t opened. no_room_to_pay c.self.view_is _ s t opened c.in_ok-line.ensures refl
+    c.room.ensures c.if-room-eq0.true
 
 pub returns-clause-is : goal.returns-clause-is
 returns-clause-is c =
-    λ s t opened. paid _ _ _ c.self.view_is _ s t opened _ _ c.in_ok-line.ensures refl _ _
-      c.room.ensures c.if-room-eq0.false c.append.ensures
+    λ s t opened. paid c.self.view_is _ s t opened c.in_ok-line.ensures refl c.room.ensures
+    c.if-room-eq0.false c.append.ensures

@@ -10,6 +10,6 @@ abbrev pub invariant-loop-number : goal.invariant-loop-number
 invariant-loop-number l = record {
   is :
       l.sum.count +ℤ therms_in (year_by not_opened l.self)
-        (range_with_len l.number (12 - l.number)) ≡ open_therms (year_by not_opened l.self);
+      (range_with_len l.number (12 - l.number)) ≡ open_therms (year_by not_opened l.self);
   within : unsigned_abs l.sum.count ≤ MOST_A_MONTH * l.number;
 }

@@ -5,4 +5,4 @@ use Rattle.records.proofs.rows.NamedDisplay.fmt.Goals as goal
 pub returns-clause-writes : goal.returns-clause-writes
 returns-clause-writes g c =
     λ plain ok. has_written_of_eq g.W.Write.write_str_gives _ _ _ _
-      (simp (append_assoc, append-nil)) (c.write.ensures.writes plain ok)
+    (simp (append_assoc, append-nil)) (c.write.ensures.writes plain ok)
