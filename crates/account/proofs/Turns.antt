@@ -5,7 +5,7 @@ use Rattle.std.proofs.Common.{append_assoc, append-nil, arith}
 use Rattle.ledger.specs.declared.faults.AccountFault.{AccountFault}
 use Rattle.ledger.specs.Calls.{State}
 use Rattle.gas.specs.Tariffs.{Tariff}
-use Rattle.ledger.specs.Runs.{History, Run, left_by, refusal_by}
+use Rattle.ledger.specs.Runs.{History, Run, state_after, refusal_by}
 use Rattle.ledger.proofs.Law.{runs_add_up}
 use Rattle.journal.specs.declared.faults.ReadFault.{ReadFault}
 use Rattle.journal.specs.declared.kinds.Located.{Located}
@@ -15,8 +15,8 @@ use Rattle.journal.specs.Format.{record_length}
 use Rattle.journal.specs.Reading.{Gives, offset_after, answer_at, offset_behind}
 use Rattle.account.specs.declared.faults.JournalFault.{JournalFault}
 use Rattle.account.specs.declared.faults.Refusal.{Refusal}
-use Rattle.account.specs.Journals.{account_after, call_of, entered_at, entry_of, history_after}
-use Rattle.account.specs.Journals.{read_at, refusals_of, refused_at, unread_at}
+use Rattle.account.specs.Journals.{account_after, call_of, answer_of_entry, entry_of, history_after}
+use Rattle.account.specs.Journals.{read_at, refusals_of, refusal_at, unread_refusal}
 use Rattle.account.specs.Playing.{Played}
 
 -- no record is shorter than 5 bytes
@@ -34,7 +34,7 @@ runs_on :
     Run s (history_after s h a ps) (account_after s a ps)
 runs_on s h a [] run = run
 runs_on s h a (p ∷ ps) run =
-    runs_on s (entry_of s a p.«record» ∷ h) (left_by s (call_of p.«record») a) ps
+    runs_on s (entry_of s a p.«record» ∷ h) (state_after s (call_of p.«record») a) ps
     (a, run, (refl, refl))
 
 -- with all that a reader gives the journal is played
@@ -93,21 +93,21 @@ was_unread :
     (i : ℕ) (r : Result (Option Located) ReadFault) (fault : JournalFault) →
     Err fault ≡ read_at i r →
     (f : ReadFault) × (r ≡ Err f) × ((k : ℕ) →
-    record { number = k; fault = fault } ∷ [] ≡ unread_at k i (Some f))
+    record { number = k; fault = fault } ∷ [] ≡ unread_refusal k i (Some f))
 was_unread i (Ok x) fault e = absurd cc
 was_unread i (Err f) fault e = (f, refl, λ k. cc)
 
 -- the refusals of a record, from what is answered of it
 was_entered :
-    (k offset : ℕ) (r : Option AccountFault) (u : Unit {0}) → Ok u ≡ entered_at offset r →
-    refused_at k offset r ≡ []
+    (k offset : ℕ) (r : Option AccountFault) (u : Unit {0}) → Ok u ≡ answer_of_entry offset r →
+    refusal_at k offset r ≡ []
 was_entered k offset None u e = refl
 was_entered k offset (Some f) u e = absurd cc
 
 was_refused :
     (k offset : ℕ) (r : Option AccountFault) (fault : JournalFault) →
-    Err fault ≡ entered_at offset r →
-    refused_at k offset r ≡ record { number = k; fault = fault } ∷ []
+    Err fault ≡ answer_of_entry offset r →
+    refusal_at k offset r ≡ record { number = k; fault = fault } ∷ []
 was_refused k offset None fault e = absurd cc
 was_refused k offset (Some f) fault e = cc
 
@@ -138,13 +138,13 @@ module _ {s : Tariff} {bs rs : List ℕ} {before a : State} {refusals : List Ref
 
     module _ {rs' : List ℕ} {a' : State} {all : List Refusal} {n' room' j l : ℕ} (p : Located)
         (read : Ok (Some p) ≡ read_at i (answer_at rs i)) (same : rs' ≡ rs)
-        (on : j ≡ offset_after rs i) (left : a' ≡ left_by s (call_of p.«record») a)
+        (on : j ≡ offset_after rs i) (left : a' ≡ state_after s (call_of p.«record») a)
         (next : l ≡ k + 1)
       where
         -- one record more, with its refusals
         on_by :
             (more : List Refusal) →
-            refused_at k p.offset (refusal_by s (call_of p.«record») a) ≡ more →
+            refusal_at k p.offset (refusal_by s (call_of p.«record») a) ≡ more →
             all ≡ refusals ++ more → n' ≤ n + 1 → room ≤ room' →
             Sofar s bs rs' before a' all n' room' j l
         on_by more of is one_more as_much =
@@ -159,20 +159,20 @@ module _ {s : Tariff} {bs rs : List ℕ} {before a : State} {refusals : List Ref
                   let given = subst (λ (m : ℕ). Gives rs m ps end) on
                   (subst (λ (b : List ℕ). Gives b j ps end) same h) in
                   let goes_on = refusals_of s (k + 1) (i + record_length p.«record»)
-                  (left_by s (call_of p.«record») a) ps end in
+                  (state_after s (call_of p.«record») a) ps end in
                   rw (is, left, next, behind_it) (subst
-                  (Played s bs before (account_after s (left_by s (call_of p.«record») a) ps))
+                  (Played s bs before (account_after s (state_after s (call_of p.«record») a) ps))
                   (joined goes_on) (t.rest (p ∷ ps) end (e, given)));
             }
           where
             joined :
                 (l : List Refusal) →
-                refusals ++ (refused_at k p.offset (refusal_by s (call_of p.«record») a) ++ l) ≡
+                refusals ++ (refusal_at k p.offset (refusal_by s (call_of p.«record») a) ++ l) ≡
                 (refusals ++ more) ++ l
             joined l = rw of (sym (append_assoc refusals more l))
 
         pub accepted_on :
-            {u : Unit {0}} → Ok u ≡ entered_at p.offset (refusal_by s (call_of p.«record») a) →
+            {u : Unit {0}} → Ok u ≡ answer_of_entry p.offset (refusal_by s (call_of p.«record») a) →
             all ≡ refusals → n' ≡ n → room ≤ room' → Sofar s bs rs' before a' all n' room' j l
         accepted_on answered is none as_much =
             on_by [] (was_entered k p.offset _ _ answered) (is ∙ sym (append-nil refusals))
@@ -180,7 +180,7 @@ module _ {s : Tariff} {bs rs : List ℕ} {before a : State} {refusals : List Ref
 
         pub refused_on :
             {number : ℕ} {fault : JournalFault} →
-            Err fault ≡ entered_at p.offset (refusal_by s (call_of p.«record») a) → number ≡ k →
+            Err fault ≡ answer_of_entry p.offset (refusal_by s (call_of p.«record») a) → number ≡ k →
             all ≡ refusals ++ record { number = number; fault = fault } ∷ [] → n' ≡ n + 1 →
             room ≤ room' → Sofar s bs rs' before a' all n' room' j l
         refused_on {number} {fault} answered this is one_more as_much =

@@ -57,7 +57,7 @@ impl JournalFault {
     }
 }
 
-// What a reader refuses at a offset.
+// What a reader refuses at an offset.
 impl From<(usize, ReadFault)> for JournalFault {
     ghost use Rattle.std.specs.Prelude.{◌≡◌};
     ghost use Rattle.account.specs.declared.faults.JournalFault.TheVariants.{Unread};
@@ -69,7 +69,7 @@ impl From<(usize, ReadFault)> for JournalFault {
     }
 }
 
-// What an account refuses of a record at a offset.
+// What an account refuses of a record at an offset.
 impl From<(usize, AccountFault)> for JournalFault {
     ghost use Rattle.std.specs.Prelude.{◌≡◌};
     ghost use Rattle.account.specs.declared.faults.JournalFault.TheVariants.{Refused};

@@ -50,7 +50,7 @@ fn faults_tell_what_is_wrong_and_its_limit(rt: HostRuntime) -> Result<(), Fail> 
             InputFault::GasYear,
             "the weather rider's gas year starts outside 2020 to 2026",
         ),
-        (InputFault::DayCount, "the month has not all of its days"),
+        (InputFault::DayCount, "the days are not just all of the month"),
     ];
     for (fault, told) in input {
         assert_eq!(rt; format!(in alloc; "{fault}")?.as_str(), told);
@@ -66,7 +66,7 @@ fn faults_tell_what_is_wrong_and_its_limit(rt: HostRuntime) -> Result<(), Fail> 
             AccountFault::NotEarliest,
             "the month is not the earliest that is open",
         ),
-        (AccountFault::LacksDay, "the month has not all of its days"),
+        (AccountFault::LacksDay, "the days are not just all of the month"),
         (
             AccountFault::SettledAlready,
             "the account is settled already",

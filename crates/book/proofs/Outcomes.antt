@@ -21,7 +21,7 @@ use Rattle.ledger.specs.Year.{Opening, Standing, Year, is_opened}
 use Rattle.book.specs.Books.{Contents, state_of, with_days}
 use Rattle.book.specs.declared.year.MeterYear.{MeterYear}
 use Rattle.book.specs.declared.terms.SettlementTerms.{SettlementTerms}
-use Rattle.book.specs.Days.{days_exchanged}
+use Rattle.book.specs.Days.{exchanged_days}
 use Rattle.book.specs.Terms.{standing_by}
 use Rattle.book.specs.Years.{year_by}
 
@@ -212,7 +212,7 @@ module _ {y : MeterYear} {lines : List Line} {b : Contents}
 
         pub corrects :
             {d before : DayRecord} {put : Contents} → Some before ≡ stands → Ok d ≡ day_of n →
-            put ≡ with_days b (days_exchanged b.year.days place d (Some before)) →
+            put ≡ with_days b (exchanged_days b.year.days place d (Some before)) →
             with_lines (year_by t put.year) put.lines
             (by_account (lines_due_in s (year_by t put.year) put.lines)) ≡ outcome s
             (correction month day n) (state_of t b)

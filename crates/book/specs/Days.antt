@@ -4,6 +4,6 @@ use Rattle.gas.specs.declared.day.DayRecord.{DayRecord}
 use Rattle.ledger.specs.Days.{Places}
 
 -- a record in the place of the one that stood there; where none stood, the table stays
-abbrev pub days_exchanged : Places → ℕ → DayRecord → Option DayRecord → Places
-days_exchanged places place day (Some before) = slice_set places place (Some day)
-days_exchanged places place day None = places
+abbrev pub exchanged_days : Places → ℕ → DayRecord → Option DayRecord → Places
+exchanged_days places place day (Some before) = slice_set places place (Some day)
+exchanged_days places place day None = places

@@ -1,12 +1,13 @@
 //! The table of a year's days, and the posted days of a month.
 ghost use Rattle.std.specs.Prelude.{◌≡◌, ◌<◌, ◌≤◌, length, replicate, Some, None, slice_index_or};
 ghost use Rattle.std.specs.Prelude.{slice_set};
-ghost use Rattle.ledger.specs.Days.{month_places, posted_in};
-ghost use Rattle.book.specs.Days.{days_exchanged};
+ghost use Rattle.gas.specs.declared.facts.TheConstants.{MOST_DAYS};
+ghost use Rattle.ledger.specs.Days.{month_places, posted_days};
+ghost use Rattle.book.specs.Days.{exchanged_days};
 
 use crate::places::{Place, places_of};
 use arrayvec::ArrayVec;
-use gas::{DayRecord, Month};
+use gas::{DayRecord, MOST_DAYS, Month};
 use std::marker::Model;
 use std::mem;
 
@@ -27,7 +28,7 @@ impl Model for DayTable {
 }
 
 /// The posted days of a month in order.
-pub type MonthDays = ArrayVec<DayRecord, 31>;
+pub type MonthDays = ArrayVec<DayRecord, MOST_DAYS>;
 
 impl DayTable {
     /// A table in which no day is posted.
@@ -64,7 +65,7 @@ impl DayTable {
     /// empty.
     pub fn exchange(&mut self, place: Place, day: DayRecord) -> Option<DayRecord>
         ensures before { result ≡ slice_index_or self.old place.index None }
-        ensures after { self.new ≡ days_exchanged self.old place.index day result }
+        ensures after { self.new ≡ exchanged_days self.old place.index day result }
     {
         let record = self.places[place.index].as_mut()?;
         Some(mem::replace(record, day))
@@ -73,7 +74,7 @@ impl DayTable {
     /// The places of a month's days.
     pub fn month(&self, month: Month, leap: bool) -> &[Option<DayRecord>]
         ensures is { result.now ≡ month_places leap self.now month.number }
-        ensures few { length result.now ≤ 31 }
+        ensures few { length result.now ≤ MOST_DAYS }
     {
         &self.places[places_of(month, leap)]
     }
@@ -81,7 +82,7 @@ impl DayTable {
 
 /// How many of some places have a record.
 pub fn posted_count(places: &[Option<DayRecord>]) -> usize
-    ensures { result ≡ length (posted_in places.now) }
+    ensures { result ≡ length (posted_days places.now) }
 {
     let mut count = 0;
     for place in places {
@@ -94,8 +95,8 @@ pub fn posted_count(places: &[Option<DayRecord>]) -> usize
 
 /// Those of at most 31 places that have a record, in order.
 pub fn posted(places: &[Option<DayRecord>]) -> MonthDays
-    requires { length places.now ≤ 31 }
-    ensures { result.items ≡ posted_in places.now }
+    requires { length places.now ≤ MOST_DAYS }
+    ensures { result.items ≡ posted_days places.now }
 {
     let mut days = MonthDays::new();
     for place in places {

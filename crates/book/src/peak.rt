@@ -1,5 +1,6 @@
 //! The peak day of a month.
 ghost use Rattle.std.specs.Prelude.{◌≤◌, length};
+ghost use Rattle.gas.specs.declared.facts.TheConstants.{MOST_DAYS};
 ghost use Rattle.ledger.specs.Peaks.{IsPeak};
 
 use gas::{DayRecord, Therms};
@@ -8,7 +9,7 @@ use gas::{DayRecord, Therms};
 /// there (`docs/ACCOUNT.md`).
 #[tactic(auto, using(crate::proofs::PeakDays::one_place_more))]
 pub fn peak_day(places: &[Option<DayRecord>]) -> Option<u8>
-    requires { length places.now ≤ 31 }
+    requires { length places.now ≤ MOST_DAYS }
     ensures { IsPeak places.now result }
 {
     let mut peak: Option<(u8, Therms)> = None;

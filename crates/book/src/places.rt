@@ -1,12 +1,11 @@
 //! The places of a gas year's days: 31 for each month, in the order of dates.
 ghost use Rattle.std.specs.Prelude.{◌≡◌, ◌+◌, ◌<◌, ◌≤◌};
 ghost use Rattle.gas.specs.Calendar.{month_length};
+ghost use Rattle.gas.specs.declared.facts.TheConstants.{MOST_DAYS};
 ghost use Rattle.ledger.specs.Days.{month_place, place_of};
 
-use gas::Month;
+use gas::{MOST_DAYS, Month};
 use std::ops::Range;
-
-const PLACES_A_MONTH: usize = 31;
 
 /// A place of the year, 31 for each month (`docs/LEDGER.md`).
 #[derive(Clone, Copy, Debug, PartialEq, Eq)]
@@ -19,11 +18,11 @@ impl Place {
     /// The place of a day of a month; days are counted from 1.
     pub fn of(month: Month, day: u8) -> Place
         requires first { 1 ≤ day }
-        requires last { day ≤ 31 }
+        requires last { day ≤ MOST_DAYS }
         ensures { result.index ≡ place_of month.number day }
     {
         Place {
-            index: PLACES_A_MONTH * month.number as usize + day as usize - 1,
+            index: MOST_DAYS * month.number as usize + day as usize - 1,
         }
     }
 }
@@ -33,6 +32,6 @@ pub fn places_of(month: Month, leap: bool) -> Range<usize>
     ensures start { result.start ≡ month_place month.number }
     ensures end { result.end ≡ month_place month.number + month_length leap month.number }
 {
-    let from = PLACES_A_MONTH * month.number as usize;
+    let from = MOST_DAYS * month.number as usize;
     from..from + month.length(leap) as usize
 }

@@ -1,5 +1,6 @@
 //! Receipts less readings, of some days and of all open months.
 ghost use Rattle.std.specs.Prelude.{◌≡◌, ◌≤◌, length};
+ghost use Rattle.gas.specs.declared.facts.TheConstants.{MOST_DAYS};
 ghost use Rattle.ledger.specs.Days.{month_days, net_therms};
 ghost use Rattle.ledger.specs.Prices.{open_therms};
 ghost use Rattle.ledger.specs.Year.{not_opened};
@@ -13,7 +14,7 @@ const MONTHS: u8 = 12;
 
 // What a month's days received less what they used.
 fn net_therms(days: &[DayRecord]) -> SignedTherms
-    requires { length days.now ≤ 31 }
+    requires { length days.now ≤ MOST_DAYS }
     ensures { result.count ≡ net_therms days.now }
 {
     let mut sum = SignedTherms::default();

@@ -4,7 +4,7 @@ ghost use Rattle.gas.specs.Worked.{IsAsExpected};
 ghost use Rattle.classes.specs.Worked.{EdgesAsExpected, edges, limits};
 
 /// How many days, months and unauthorized uses at the edges of the rules come to what was expected;
-/// and the limits of percentages and base levels are those that were laid down (`docs/TARIFF.md`).
+/// and the limits of base levels are those that were laid down (`docs/TARIFF.md`).
 pub fn worked_edges() -> u8
     ensures count { result ≡ length edges }
     ensures expected { EdgesAsExpected }

@@ -12,7 +12,7 @@ use Rattle.gas.specs.declared.faults.InputFault.TheVariants as input
 use Rattle.gas.specs.Day.{kind_number, numbers_of}
 use Rattle.gas.specs.Inputs.{checked_day, has_lawful_quantities, mark_number, answer_by, value_if}
 use Rattle.gas.proofs.Lawful.{quantities_taken}
-use Rattle.gas.specs.Made.{day_of, day_tested, kind_of, made_day}
+use Rattle.gas.specs.Made.{day_of, tested_day, kind_of, made_day}
 
 same_kind : (k : DayKind) → kind_of (kind_number k) ≡ k
 same_kind Normal = refl
@@ -54,9 +54,9 @@ same_made d ok =
 tested :
     (n : DayNumbers) (r : Result DayRecord InputFault) (b : Bool) (e : has_lawful_quantities n ≡ b)
     →
-    answer_by numbers_of r ≡ value_if b input.Quantity n → r ≡ day_tested n b e
+    answer_by numbers_of r ≡ value_if b input.Quantity n → r ≡ tested_day n b e
 tested n (Ok d) true e h = let same : numbers_of d ≡ n = cc in subst
-    (λ (m : DayNumbers). (ok : has_lawful_quantities m ≡ true) → Ok d ≡ day_tested m true ok) same
+    (λ (m : DayNumbers). (ok : has_lawful_quantities m ≡ true) → Ok d ≡ tested_day m true ok) same
     (λ ok. ap Ok (sym (same_made d ok))) e
 tested n (Err f) true e h = absurd (let z : ◌≡◌ {A = ℕ} 0 1 = cc in omega arith)
 tested n (Ok d) false e h = absurd (let z : ◌≡◌ {A = ℕ} 0 1 = cc in omega arith)

@@ -41,11 +41,11 @@ made_day n ok =
     }
 
 -- that day, or refusal 7, by whether they are
-abbrev pub day_tested :
+abbrev pub tested_day :
     (n : DayNumbers) (ok : Bool) → has_lawful_quantities n ≡ ok → Result DayRecord InputFault
-day_tested n true e = Ok (made_day n e)
-day_tested n false e = Err input.Quantity
+tested_day n true e = Ok (made_day n e)
+tested_day n false e = Err input.Quantity
 
 -- the day that numbers make, or their first refusal
 abbrev pub day_of : DayNumbers → Result DayRecord InputFault
-day_of n = result_and (checked_day n) (day_tested n (has_lawful_quantities n) refl)
+day_of n = result_and (checked_day n) (tested_day n (has_lawful_quantities n) refl)

@@ -31,7 +31,7 @@ const MESSAGES: [(u8, &str); 22] = [
     (22, "the day is posted already"),
     (23, "the day is not posted"),
     (24, "the month is not the earliest that is open"),
-    (25, "the month has not all of its days"),
+    (25, "the days are not just all of the month"),
     (26, "the account is settled already"),
     (27, "an interim month is open"),
     (

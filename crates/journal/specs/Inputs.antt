@@ -3,5 +3,5 @@ use Rattle.std.specs.Prelude.{ℕ, if◌then◌else◌, List, length, Some, None
 use Rattle.journal.specs.declared.input.TheConstants.{MOST_BYTES}
 
 -- an input of more than 65,536 bytes is not taken
-abbrev pub input_taken : List ℕ → Option (List ℕ)
-input_taken bytes = if nat_le (length bytes) MOST_BYTES then Some bytes else None
+abbrev pub taken_input : List ℕ → Option (List ℕ)
+taken_input bytes = if nat_le (length bytes) MOST_BYTES then Some bytes else None

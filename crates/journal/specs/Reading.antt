@@ -1,8 +1,8 @@
--- What is read at a offset of any list of bytes.
+-- What is read at an offset of any list of bytes.
 -- Words:
 -- `read_body`, the record of a kind, from the bytes behind its kind byte
 -- `read_front`, what a list of bytes begins with
--- `answer` and `after`, what a reader at a offset answers, and where it then stands
+-- `answer_at` and `offset_after`, what a reader at an offset answers, and where it then stands
 -- `Gives`, what a reader gives of the whole rest of a journal
 use Rattle.std.specs.Prelude.{◌≡◌, ℕ, ◌+◌, Bool, if◌then◌else◌, List, [], ◌∷◌, length, drop, Some}
 use Rattle.std.specs.Prelude.{None, Ok, Err, Option, Result, sum, ◌==◌, nat_le, slice_index}

@@ -7,7 +7,7 @@ use Rattle.journal.specs.declared.kinds.Record.{Record}
 use Rattle.journal.specs.Format.{record_bytes, record_length}
 use Rattle.journal.specs.Reading.{answer_at, offset_after}
 
--- a record's bytes stand at a offset of a list of bytes
+-- a record's bytes stand at an offset of a list of bytes
 abbrev pub StandsAt : List ℕ → ℕ → Record → Type 0
 StandsAt bs i r = record_bytes r ≡ take (record_length r) (drop i bs)
 

@@ -2,7 +2,7 @@
 ghost use Rattle.std.specs.Prelude.{◌≡◌, ◌≤◌, IfSome, IfOk, SomeIff, vec_len, vec_items};
 ghost use Rattle.std.specs.Option.{option_map};
 ghost use Rattle.journal.specs.declared.input.TheConstants.{MOST_BYTES};
-ghost use Rattle.journal.specs.Inputs.{input_taken};
+ghost use Rattle.journal.specs.Inputs.{taken_input};
 
 use std::alloc::Global;
 use std::io;
@@ -27,7 +27,7 @@ pub fn load<R: Read + Drop>(alloc: Global, input: R) -> io::Result<Option<Vec<u8
 
     // where the stream's bytes are known, as those of a slice are
     ensures whole { IfSome (R.remaining input) (λ all.
-        IfOk result (λ o. option_map vec_items o ≡ input_taken all)) }
+        IfOk result (λ o. option_map vec_items o ≡ taken_input all)) }
 {
     let mut bytes = Vec::new(alloc);
     input.take(MOST_BYTES as u64 + 1).read_to_end(&mut bytes)?;

@@ -146,7 +146,7 @@ mod tests {
     }
 
     #[test]
-    fn a_refusal_behind_whole_records_is_met_again_at_its_place(rt: HostRuntime) {
+    fn a_refusal_behind_whole_records_is_met_again_at_its_offset(rt: HostRuntime) {
         let mut reader = Reader::new(b"\x06\x64\x00\x02\x01\x05\x01\x02");
         assert_eq!(rt;
             reader.next(),

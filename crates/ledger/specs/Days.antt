@@ -17,8 +17,8 @@ abbrev pub Places : Type 0
 Places = List (Option DayRecord)
 
 -- the records that stand in some places, in order
-abbrev pub posted_in : Places → List DayRecord
-posted_in places = flat_map option_to_list places
+abbrev pub posted_days : Places → List DayRecord
+posted_days places = flat_map option_to_list places
 
 -- the first place of a month, which has 31
 abbrev pub month_place : ℕ → ℕ
@@ -43,7 +43,7 @@ month_places leap days month = take (month_length leap month) (drop (month_place
 
 -- a month's posted days in order
 abbrev pub month_days : Bool → Places → ℕ → List DayRecord
-month_days leap days month = posted_in (month_places leap days month)
+month_days leap days month = posted_days (month_places leap days month)
 
 -- a month is complete if as many days are posted as it has
 abbrev pub is_complete : Bool → Places → ℕ → Bool

@@ -14,7 +14,7 @@ use Rattle.ledger.specs.declared.faults.AccountFault.{AccountFault}
 use Rattle.ledger.specs.declared.lines.Heading.TheVariants.{Priced, Refund}
 use Rattle.ledger.specs.declared.lines.Line.{Line}
 use Rattle.ledger.specs.Calls.{Call, State, year_after, outcome}
-use Rattle.ledger.specs.Days.{IsDayPlace, net_therms, posted_in}
+use Rattle.ledger.specs.Days.{IsDayPlace, net_therms, posted_days}
 use Rattle.ledger.specs.Headings.{heading_item, heading_month, money_on, sum_under, sum_where}
 use Rattle.ledger.specs.Headings.{therms_on}
 use Rattle.gas.specs.Tariffs.{Tariff}
@@ -47,13 +47,13 @@ abbrev pub refusal_by : Tariff → Call → State → Option AccountFault
 refusal_by s c a = result_err (outcome s c a)
 
 -- the account that a call leaves; a refused one leaves it as it was
-abbrev pub left_by : Tariff → Call → State → State
-left_by s c a = result_unwrap_or (outcome s c a) a
+abbrev pub state_after : Tariff → Call → State → State
+state_after s c a = result_unwrap_or (outcome s c a) a
 
 -- a call that found the account a, answered as the entry says and left b: both are those of its
 -- outcome
 abbrev pub Step : Tariff → State → Entry → State → Type 0
-Step s a e b = (e.refusal ≡ refusal_by s e.call a) × (b ≡ left_by s e.call a)
+Step s a e b = (e.refusal ≡ refusal_by s e.call a) × (b ≡ state_after s e.call a)
 
 -- each call found what the one before left
 abbrev pub Run : Tariff → History → State → Type 0
@@ -115,7 +115,7 @@ pub record AddsUp (s : Tariff) (y : Year) (a : State) (still_open : ℤ) : Type 
   pub months :
       (month : ℕ) (item : Item) → month < length y.closings →
       price_of s y month item ≡ Ok (sum_under money_on (Priced month item) a.lines)
-  pub therms : balanced_therms a.lines +ℤ still_open ≡ net_therms (posted_in y.days)
+  pub therms : balanced_therms a.lines +ℤ still_open ≡ net_therms (posted_days y.days)
   pub settlement :
       (o : Opening) (t : Settlement) → y.standing ≡ settled o t → SettlesUp s y a.lines o t
 

@@ -6,7 +6,9 @@ mod imbalance;
 mod northern;
 mod terms;
 mod tolerance;
+mod worked;
 
 pub use northern::Northern;
 pub use terms::{MOST_PERCENT, MOST_TOLERANCE, MonthTerms};
 pub use tolerance::{Tolerance, ToleranceNumbers};
+pub use worked::worked_limits;

@@ -9,13 +9,13 @@ use gas::{DayKind, DayNumbers, DayRecord};
 use std::alloc::Global;
 
 /// What the days of a month are like (`docs/TARIFF.md`).
-#[derive(Clone, Copy)]
+#[derive(Clone, Copy, Debug, PartialEq, Eq)]
 pub enum Pattern {
-    // of every kind, each fifth curtailed, with receipts about a base
+    /// Of every kind, each fifth curtailed, with receipts about a base.
     Mixed { base: u16 },
-    // full use with nothing nominated, all of one kind
+    /// Full use with nothing nominated, all of one kind.
     Full { kind: DayKind },
-    // receipts and no use
+    /// Receipts and no use.
     Idle,
 }
 

@@ -7,7 +7,7 @@ use gas::{Item, Millicents, PriceValues, ScheduleFault};
 use std::fmt;
 
 /// What an item costs in a case, or why it has no price; shown as a row of `docs/TARIFF.md`.
-#[derive(Clone, Copy)]
+#[derive(Clone, Copy, Debug, PartialEq, Eq)]
 pub struct Row {
     pub case: u8,
     pub item: Item,

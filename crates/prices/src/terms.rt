@@ -66,8 +66,8 @@ pub fn small() -> Class<SmallDualFuel, Northern>
     }
 }
 
-#[tactic(auto, unfolding(crate::specs::Cases::large))]
 /// Large dual fuel on Northern (`docs/TARIFF.md`).
+#[tactic(auto, unfolding(crate::specs::Cases::large))]
 pub fn large() -> Class<LargeDualFuel, Northern>
     ensures { (⟦<Class<LargeDualFuel, Northern> as Schedule>⟧.tariff result).price ≡ large }
 {

@@ -8,7 +8,7 @@ use Rattle.std.specs.List.{slice_get}
 use Rattle.std.specs.Option.{ok_or}
 use Rattle.ledger.specs.declared.lines.Line.{Line}
 use Rattle.ledger.specs.declared.faults.AccountFault.TheVariants.{NoLine}
-use Rattle.ledger.specs.Questions.{line_numbered}
+use Rattle.ledger.specs.Questions.{numbered_line}
 use Rattle.report.specs.Rows.{line_text, lines_text}
 
 was_found : (o : Option Line) (line : Line) → ok_or o NoLine ≡ Ok line → o ≡ Some line
@@ -25,7 +25,7 @@ rest_from lines i line e =
 
 pub one_more :
     (lines : List Line) (start text more : List ℕ) (i : ℕ) (line : Line) →
-    text ++ lines_text (i + 1) (drop i lines) ≡ start → line_numbered lines (i + 1) ≡ Ok line →
+    text ++ lines_text (i + 1) (drop i lines) ≡ start → numbered_line lines (i + 1) ≡ Ok line →
     more ≡ text ++ (line_text (i + 1) line ++ codes "\n") →
     more ++ lines_text (i + 1 + 1) (drop (i + 1) lines) ≡ start
 one_more lines start text more i line sofar is m =

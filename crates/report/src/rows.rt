@@ -7,7 +7,7 @@ use ledger::Line;
 use std::fmt;
 
 /// A line with its number, counted from 1 (`docs/ACCOUNT.md`).
-#[derive(Clone, Copy)]
+#[derive(Clone, Copy, Debug, PartialEq, Eq)]
 pub struct LineRow {
     pub number: usize,
     pub line: Line,
@@ -32,9 +32,8 @@ impl fmt::Display for LineRow {
     }
 }
 
-/// A refused record: a type of our own, since the refusal is another crate's and its words are this
-/// program's (`docs/ACCOUNT.md`).
-#[derive(Clone, Copy)]
+/// A refused record, by its number and the number of its refusal (`docs/ACCOUNT.md`).
+#[derive(Clone, Copy, Debug, PartialEq, Eq)]
 pub struct RefusalRow(pub Refusal);
 
 impl fmt::Display for RefusalRow {

@@ -1,9 +1,9 @@
 //! A whole journal played into an account.
 ghost use Rattle.std.specs.Prelude.{◌≡◌, IfOk, OnErr, vec_items};
 ghost use Rattle.gas.specs.Tariffs.{Tariff};
-ghost use Rattle.ledger.specs.Runs.{RunsAddUp, left_by, refusal_by};
+ghost use Rattle.ledger.specs.Runs.{RunsAddUp, state_after, refusal_by};
 ghost use Rattle.journal.specs.Reading.{answer_at, offset_after};
-ghost use Rattle.account.specs.Journals.{call_of, entered_at, read_at};
+ghost use Rattle.account.specs.Journals.{call_of, answer_of_entry, read_at};
 ghost use Rattle.account.specs.Playing.{Played};
 
 use crate::account::Account;
@@ -31,11 +31,11 @@ impl<S: Schedule> Account<S> {
     /// offset. With a reader it plays a journal without memory of its own (`docs/ACCOUNT.md`).
     pub fn enter_located(&mut self, located: &Located) -> Result<(), JournalFault>
         ensures answers { result ≡
-            entered_at located.now.offset
+            answer_of_entry located.now.offset
             (refusal_by (S.tariff self.old.schedule) (call_of located.now.«record»)
             self.old.state) }
         ensures leaves { self.new.state ≡
-            left_by (S.tariff self.old.schedule) (call_of located.now.«record») self.old.state }
+            state_after (S.tariff self.old.schedule) (call_of located.now.«record») self.old.state }
         ensures schedule { self.new.schedule ≡ self.old.schedule }
         ensures unchanged { OnErr result (self.new ≡ self.old) }
     {

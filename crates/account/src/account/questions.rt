@@ -2,7 +2,7 @@
 ghost use Rattle.std.specs.Prelude.{◌≡◌, ◌≤◌, length};
 ghost use Rattle.ledger.specs.declared.lines.TheConstants.{MOST_LINES};
 ghost use Rattle.ledger.specs.Prices.{open_therms};
-ghost use Rattle.ledger.specs.Questions.{IsPeakAnswer, line_numbered, sum_of_all};
+ghost use Rattle.ledger.specs.Questions.{IsPeakAnswer, numbered_line, sum_of_all};
 ghost use Rattle.ledger.specs.Runs.{RunsAddUp};
 ghost use Rattle.ledger.specs.Year.{IsComplete};
 ghost use Rattle.account.specs.Histories.{AddsUpByItsHistories};
@@ -27,7 +27,7 @@ impl<S: Schedule> Account<S> {
 
     /// The line of a number, counted from 1; refused with 30 where none has it (`docs/ACCOUNT.md`).
     pub fn line(&self, number: usize) -> Result<Line, AccountFault>
-        ensures { result ≡ line_numbered self.now.state.lines number }
+        ensures { result ≡ numbered_line self.now.state.lines number }
     {
         self.book.line(number)
     }

@@ -4,7 +4,7 @@ use Rattle.std.proofs.lemmas.List.{take_all, length-take}
 use Rattle.std.proofs.lemmas.Bool.{cond_both}
 use Rattle.std.proofs.lemmas.Bool.Decides.{nat_tests}
 use Rattle.std.specs.Option.{option_map}
-use Rattle.journal.specs.Inputs.{input_taken}
+use Rattle.journal.specs.Inputs.{taken_input}
 use Rattle.journal.proofs.input.load.Goals as goal
 
 -- from what was read of a stream, one byte more than a program takes at most, to all that it holds
@@ -31,7 +31,7 @@ whole view b len limit old k known o same most none size read kept =
 
 -- all that the stream holds is what is taken of it
 taken :
-    (all : List ℕ) (o : Option (List ℕ)) → SomeIff o (length all ≤ 65536) all → o ≡ input_taken all
+    (all : List ℕ) (o : Option (List ℕ)) → SomeIff o (length all ≤ 65536) all → o ≡ taken_input all
 taken all None h =
     cond_both (leb (length all) 65536) _ _ (λ (x : Option (List ℕ)). None ≡ x)
     (λ e. absurd (h (leb-true _ _ e))) (λ e. refl)
@@ -42,7 +42,7 @@ taken all (Some v) h =
 all_taken :
     {V : Type 0} (view : V → List ℕ) (known : Option (List ℕ)) (o : Option V) →
     IfSome known (λ all. SomeIff (option_map view o) (length all ≤ 65536) all) →
-    IfSome known (λ all. option_map view o ≡ input_taken all)
+    IfSome known (λ all. option_map view o ≡ taken_input all)
 all_taken view None o h = tt
 all_taken view (Some all) o h = taken all (option_map view o) h
 
