@@ -44,8 +44,7 @@ impl JournalFault {
     }
 
     /// The number of the refusal and the byte offset of the record, with the values of the
-    /// account's
-    /// refusal if it has any (`docs/ACCOUNT.md`).
+    /// account's refusal if it has any (`docs/ACCOUNT.md`).
     pub fn values(self) -> (u8, usize, Option<PriceValues>)
         ensures { result ≡ journal_values self }
     {

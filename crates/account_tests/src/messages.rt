@@ -50,7 +50,10 @@ fn faults_tell_what_is_wrong_and_its_limit(rt: HostRuntime) -> Result<(), Fail> 
             InputFault::GasYear,
             "the weather rider's gas year starts outside 2020 to 2026",
         ),
-        (InputFault::DayCount, "the days are not just all of the month"),
+        (
+            InputFault::DayCount,
+            "the days are not just all of the month",
+        ),
     ];
     for (fault, told) in input {
         assert_eq!(rt; format!(in alloc; "{fault}")?.as_str(), told);
@@ -66,7 +69,10 @@ fn faults_tell_what_is_wrong_and_its_limit(rt: HostRuntime) -> Result<(), Fail> 
             AccountFault::NotEarliest,
             "the month is not the earliest that is open",
         ),
-        (AccountFault::LacksDay, "the days are not just all of the month"),
+        (
+            AccountFault::LacksDay,
+            "the days are not just all of the month",
+        ),
         (
             AccountFault::SettledAlready,
             "the account is settled already",

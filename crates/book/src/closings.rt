@@ -8,8 +8,7 @@ use gas::Closing;
 use std::marker::Model;
 
 /// What closed the months so far, at most the twelve of a gas year. A contract sees it as the list
-/// of
-/// their numbers (`docs/LEDGER.md`).
+/// of their numbers (`docs/LEDGER.md`).
 #[derive(Debug, Drop)]
 pub struct Closings {
     months: ArrayVec<Closing, 12>,

@@ -28,10 +28,8 @@ fn has_day(month: Month, leap: bool, day: u8) -> bool
 
 impl DatedDay {
     /// A lawful day at its place in the year. Refused are, in this order, with 3 a month above 11,
-    /// with
-    /// 4 a day that the month does not have, with 5 a kind above 3, with 6 a mark above 1, and with
-    /// 7
-    /// quantities outside their limits (`docs/ACCOUNT.md`).
+    /// with 4 a day that the month does not have, with 5 a kind above 3, with 6 a mark above 1, and
+    /// with 7 quantities outside their limits (`docs/ACCOUNT.md`).
     #[tactic(auto, using(gas::proofs::Made::made_of))]
     pub fn new(
         leap: bool,

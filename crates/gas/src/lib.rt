@@ -1,6 +1,5 @@
 //! What a gas account is made of: therms, money and rates, the calendar, the raw numbers of days
-//! and
-//! months and the lawful values that are made of them, every refusal of such numbers, and the
+//! and months and the lawful values that are made of them, every refusal of such numbers, and the
 //! interfaces of pipelines and rate schedules.
 #![tactic(auto)]
 

@@ -60,8 +60,7 @@ abbrev pub opened_test : State → Bool × AccountFault
 opened_test a = (is_opened a.year.standing, fault.NotOpened)
 
 -- the tests of an opening's numbers: of the interim months the last is 11 at most, and the first
--- does
--- not come after it; then the leap mark, and the increase
+-- does not come after it; then the leap mark, and the increase
 abbrev pub opening_input : ℕ → Opening → Tests
 opening_input leap o =
     input_test (nat_le o.last LAST_MONTH && nat_le o.first o.last) input.Month ∷
@@ -148,8 +147,7 @@ lines_of_call s (payment amount) y lines =
 lines_of_call s (settling t) y lines = by_account (lines_due_in s y lines)
 
 -- the account with some lines more; refused by the fault of a price, else where there is no room
--- for
--- all of them
+-- for all of them
 abbrev pub with_lines :
     Year → List Line → Result (List Line) AccountFault → Result State AccountFault
 with_lines y lines (Ok more) =

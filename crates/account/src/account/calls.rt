@@ -14,8 +14,7 @@ use ledger::AccountFault;
 
 impl<S: Schedule> Account<S> {
     /// Opens the account: whether February has 29 days, the interim increase in thousandths, and
-    /// the
-    /// first and the last interim month. Refused are, in this order, with 21 an account that is
+    /// the first and the last interim month. Refused are, in this order, with 21 an account that is
     /// opened, with 3 the interim months, with 6 the leap mark, and with 8 the increase
     /// (`docs/ACCOUNT.md`).
     pub fn open(&mut self, leap: u8, increase: u16, first: u8, last: u8) -> Result<(), AccountFault>
@@ -32,9 +31,8 @@ impl<S: Schedule> Account<S> {
     }
 
     /// Stores a day that is absent. Refused are, in this order, with 20 an account that is not
-    /// opened,
-    /// with 3 the month, with 4 the day, with 5 to 7 the day's numbers, and with 22 a day that is
-    /// posted (`docs/ACCOUNT.md`).
+    /// opened, with 3 the month, with 4 the day, with 5 to 7 the day's numbers, and with 22 a day
+    /// that is posted (`docs/ACCOUNT.md`).
     pub fn post(&mut self, month: u8, day: u8, numbers: DayNumbers) -> Result<(), AccountFault>
         ensures { Called S.tariff self.old (posting month day numbers) result self.new }
     {
@@ -48,8 +46,7 @@ impl<S: Schedule> Account<S> {
     }
 
     /// Replaces a posted day. Refused as a posting is, but last with 23 a day that is not posted,
-    /// and
-    /// then with 28 and 29 (`docs/ACCOUNT.md`).
+    /// and then with 28 and 29 (`docs/ACCOUNT.md`).
     pub fn correct(&mut self, month: u8, day: u8, numbers: DayNumbers) -> Result<(), AccountFault>
         ensures { Called S.tariff self.old (correction month day numbers) result self.new }
     {
@@ -63,9 +60,8 @@ impl<S: Schedule> Account<S> {
     }
 
     /// Closes the earliest open month at its index and its two transport rates. Refused are, in
-    /// this
-    /// order, with 20 an account that is not opened, with 3 the month, with 7 the rates, with 24
-    /// another month, with 25 one that lacks a day, and then with 28 and 29 (`docs/ACCOUNT.md`).
+    /// this order, with 20 an account that is not opened, with 3 the month, with 7 the rates, with
+    /// 24 another month, with 25 one that lacks a day, and then with 28 and 29 (`docs/ACCOUNT.md`).
     pub fn close(&mut self, month: u8, numbers: ClosingNumbers) -> Result<(), AccountFault>
         ensures { Called S.tariff self.old (closing month numbers) result self.new }
     {
@@ -73,8 +69,8 @@ impl<S: Schedule> Account<S> {
     }
 
     /// Takes in a payment, in millicents. Refused are, in this order, with 20 an account that is
-    /// not
-    /// opened, with 9 the payment, and with 29 one for which no line is left (`docs/ACCOUNT.md`).
+    /// not opened, with 9 the payment, and with 29 one for which no line is left
+    /// (`docs/ACCOUNT.md`).
     pub fn pay(&mut self, amount: u64) -> Result<(), AccountFault>
         ensures { Called S.tariff self.old (payment amount) result self.new }
     {
@@ -82,10 +78,9 @@ impl<S: Schedule> Account<S> {
     }
 
     /// Settles the account at the increase that came to be final, with interest on a refund, each
-    /// in
-    /// thousandths. Refused are, in this order, with 20 an account that is not opened, with 8 the
-    /// numbers, with 26 one that is settled, with 27 an open interim month, and then with 28 and 29
-    /// (`docs/ACCOUNT.md`).
+    /// in thousandths. Refused are, in this order, with 20 an account that is not opened, with 8
+    /// the numbers, with 26 one that is settled, with 27 an open interim month, and then with 28
+    /// and 29 (`docs/ACCOUNT.md`).
     pub fn settle(&mut self, final_increase: u16, interest: u16) -> Result<(), AccountFault>
         ensures { Called S.tariff self.old
             (settling (record { final_increase = final_increase; interest = interest }))

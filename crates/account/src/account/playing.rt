@@ -59,8 +59,7 @@ impl<S: Schedule> Account<S> {
         ensures law { RunsAddUp }
     {
         // room for the refusal of every record and of one that cannot be read, so that no later
-        // step
-        // wants memory
+        // step wants memory
         let mut refusals = Vec::with_capacity(alloc, journal.len() / LEAST_LENGTH + 1)?;
         let mut reader = Reader::new(journal);
         for number in 1.. {

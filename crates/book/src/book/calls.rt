@@ -18,11 +18,9 @@ impl Book {
     ghost use Rattle.book.specs.Books.{state_of};
 
     /// Stores a day that is absent. Refused are, in this order, with 3 a month above 11, with 4 a
-    /// day
-    /// that the month does not have, with 5 to 7 numbers of a day that are not lawful, and with 22
-    /// a
-    /// day that is posted. It is so on any tariff and by any standing of an account that was opened
-    /// (`docs/ACCOUNT.md`).
+    /// day that the month does not have, with 5 to 7 numbers of a day that are not lawful, and with
+    /// 22 a day that is posted. It is so on any tariff and by any standing of an account that was
+    /// opened (`docs/ACCOUNT.md`).
     pub fn post(&mut self, month: u8, day: u8, numbers: DayNumbers) -> Result<(), AccountFault>
         ensures is { (s : Tariff) (t : Standing) → is_opened t ≡ true →
             answer_by (λ _. state_of t self.new) result ≡
@@ -38,10 +36,8 @@ impl Book {
     }
 
     /// Puts a day in the place of the one that was posted, and trues the lines up to the year as
-    /// then
-    /// known. Refused as a posting is, but with 23 where the day is not posted, and then with 28
-    /// and
-    /// 29 (`docs/ACCOUNT.md`).
+    /// then known. Refused as a posting is, but with 23 where the day is not posted, and then with
+    /// 28 and 29 (`docs/ACCOUNT.md`).
     pub fn correct<S: Schedule>(
         &mut self,
         schedule: &S,
@@ -68,8 +64,7 @@ impl Book {
 
     /// Closes the earliest open month, of which all days are posted, and trues the lines up to the
     /// year as then known. Refused are, in this order, with 3 a month above 11, with 7 a rate past
-    /// its
-    /// limit, with 24 another month, with 25 one that lacks a day, and then with 28 and 29
+    /// its limit, with 24 another month, with 25 one that lacks a day, and then with 28 and 29
     /// (`docs/ACCOUNT.md`).
     pub fn close<S: Schedule>(
         &mut self,
@@ -100,10 +95,8 @@ impl Book {
     }
 
     /// Writes a line that takes off what is paid, in millicents. Refused are with 9 a payment of 0
-    /// or
-    /// above 10^13, and with 29 one for which there is no line left. It is so on any tariff and by
-    /// any
-    /// standing of an account that was opened (`docs/ACCOUNT.md`).
+    /// or above 10^13, and with 29 one for which there is no line left. It is so on any tariff and
+    /// by any standing of an account that was opened (`docs/ACCOUNT.md`).
     pub fn pay(&mut self, amount: u64) -> Result<(), AccountFault>
         ensures is { (s : Tariff) (t : Standing) → is_opened t ≡ true →
             answer_by (λ _. state_of t self.new) result ≡
