@@ -2,11 +2,9 @@
 //! prints what `lines` prints of it, under a row with the file's name.
 #![tactic(auto)]
 
-mod entry;
-
 use anyhow::Context;
-use entry::output;
 use journal::load;
+use report::named_output;
 use std::{env, fs};
 
 fn main(rt: HostRuntime) -> anyhow::Result<()> {
@@ -14,7 +12,7 @@ fn main(rt: HostRuntime) -> anyhow::Result<()> {
     for name in env::args(&rt)?.skip(1) {
         let file = fs::open(&rt, name.as_str()).context(name.as_str())?;
         let journal = load(alloc, file).context(name.as_str())?;
-        rt.print(output(alloc, &name, journal)?)?;
+        rt.print(named_output(alloc, &name, journal)?)?;
     }
     Ok(())
 }

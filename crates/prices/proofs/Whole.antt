@@ -10,7 +10,7 @@ use Rattle.prices.specs.declared.days.Pattern.{Pattern}
 use Rattle.prices.specs.Months.{Grows, IsMonth, PrintsAll, PrintsFull, PrintsMixed, PrintsSpring}
 use Rattle.prices.specs.Months.{PrintsStacked}
 use Rattle.prices.specs.Patterns.{days_to}
-use Rattle.prices.specs.Rows.{header}
+use Rattle.report.specs.Prices.{header}
 
 passed : {A F : Type 0} (o : Option F) (f g : A) → Ok f ≡ answer_unless o (Ok g) → f ≡ g
 passed None f g e = cc

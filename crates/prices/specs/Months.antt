@@ -8,7 +8,7 @@ use Rattle.prices.specs.declared.days.Pattern.{Pattern}
 use Rattle.prices.specs.declared.days.Pattern.TheVariants.{Full, Idle, Mixed}
 use Rattle.prices.specs.Cases.{mixed_text, refusals_text, seasons_text, stacks_text}
 use Rattle.prices.specs.Patterns.{days_to}
-use Rattle.prices.specs.Rows.{header}
+use Rattle.report.specs.Prices.{header}
 
 -- the facts of a month have its numbers, and as its days the first n of a pattern
 abbrev pub IsMonth : MonthNumbers → Pattern → ℕ → MonthFacts → Type 0

@@ -8,7 +8,6 @@ ghost use Rattle.prices.specs.Cases.{refusals_text, riders_on_riders_text, rider
 ghost use Rattle.prices.specs.Cases.{seasons_text, stacks_text};
 
 use crate::days::Pattern;
-use crate::tables::{head, table};
 use crate::terms::{
     AFFORDABILITY, DEAR_AFFORDABILITY, FIRM, FRANCHISE, SECOND_AFFORDABILITY, SECOND_FRANCHISE,
     TOLERANCE, WEATHER, large, small,
@@ -16,6 +15,7 @@ use crate::terms::{
 use classes::{Class, SmallDualFuel};
 use gas::{ClosingNumbers, DayKind, DayRecord, Facts, MonthNumbers, Therms};
 use pipelines::Northern;
+use report::{price_header, price_table};
 use riders::{Interim, Rider};
 use std::alloc::Global;
 use std::fmt;
@@ -94,11 +94,11 @@ fn dual_fuel(text: &mut String, november: &Facts, may: &Facts) -> Result<(), fmt
         terms: UPPER,
         pipeline: Northern,
     };
-    table(text, 1, &small(), november)?;
-    table(text, 2, &small(), may)?;
-    table(text, 3, &upper, november)?;
-    table(text, 4, &large(), november)?;
-    table(text, 5, &large(), may)?;
+    price_table(text, 1, &small(), november)?;
+    price_table(text, 2, &small(), may)?;
+    price_table(text, 3, &upper, november)?;
+    price_table(text, 4, &large(), november)?;
+    price_table(text, 5, &large(), may)?;
     Ok(())
 }
 
@@ -112,9 +112,9 @@ fn firm_and_tolerance(text: &mut String, november: &Facts, may: &Facts) -> Resul
         terms: FIRM,
         pipeline: Northern,
     };
-    table(text, 6, &firm, november)?;
-    table(text, 7, &firm, may)?;
-    table(
+    price_table(text, 6, &firm, november)?;
+    price_table(text, 7, &firm, may)?;
+    price_table(
         text,
         8,
         &Class {
@@ -123,7 +123,7 @@ fn firm_and_tolerance(text: &mut String, november: &Facts, may: &Facts) -> Resul
         },
         november,
     )?;
-    table(
+    price_table(
         text,
         9,
         &Class {
@@ -141,11 +141,11 @@ fn riders(text: &mut String, november: &Facts, may: &Facts) -> Result<(), fmt::E
         string_bytes text.old ++ riders_text (facts_of november.now) (facts_of may.now)) }
 {
     let weather = WEATHER.on(small());
-    table(text, 10, &Interim.on(small()), november)?;
-    table(text, 11, &FRANCHISE.on(small()), november)?;
-    table(text, 12, &AFFORDABILITY.on(small()), november)?;
-    table(text, 13, &weather, november)?;
-    table(text, 14, &weather, may)?;
+    price_table(text, 10, &Interim.on(small()), november)?;
+    price_table(text, 11, &FRANCHISE.on(small()), november)?;
+    price_table(text, 12, &AFFORDABILITY.on(small()), november)?;
+    price_table(text, 13, &weather, november)?;
+    price_table(text, 14, &weather, may)?;
     Ok(())
 }
 
@@ -156,10 +156,10 @@ fn riders_on_riders(text: &mut String, november: &Facts) -> Result<(), fmt::Erro
 {
     let franchise = FRANCHISE.on(small());
     let all_but_franchise = Interim.on(WEATHER.on(AFFORDABILITY.on(small())));
-    table(text, 15, &FRANCHISE.on(Interim.on(small())), november)?;
-    table(text, 16, &Interim.on(franchise), november)?;
-    table(text, 17, &SECOND_FRANCHISE.on(franchise), november)?;
-    table(text, 18, &FRANCHISE.on(all_but_franchise), november)?;
+    price_table(text, 15, &FRANCHISE.on(Interim.on(small())), november)?;
+    price_table(text, 16, &Interim.on(franchise), november)?;
+    price_table(text, 17, &SECOND_FRANCHISE.on(franchise), november)?;
+    price_table(text, 18, &FRANCHISE.on(all_but_franchise), november)?;
     Ok(())
 }
 
@@ -169,9 +169,9 @@ fn refusals(text: &mut String, critical: &Facts, normal: &Facts) -> Result<(), f
         string_bytes text.old ++ refusals_text (facts_of critical.now) (facts_of normal.now)) }
 {
     let interim = Interim.on(DEAR_AFFORDABILITY.on(large()));
-    table(text, 19, &FRANCHISE.on(large()), critical)?;
-    table(text, 20, &interim, normal)?;
-    table(text, 21, &FRANCHISE.on(interim), critical)?;
+    price_table(text, 19, &FRANCHISE.on(large()), critical)?;
+    price_table(text, 20, &interim, normal)?;
+    price_table(text, 21, &FRANCHISE.on(interim), critical)?;
     Ok(())
 }
 
@@ -180,8 +180,8 @@ fn seasons(text: &mut String, march: &Facts, april: &Facts) -> Result<(), fmt::E
     ensures { OnOk result (string_bytes text.new ≡
         string_bytes text.old ++ seasons_text (facts_of march.now) (facts_of april.now)) }
 {
-    table(text, 22, &small(), march)?;
-    table(text, 23, &small(), april)?;
+    price_table(text, 22, &small(), march)?;
+    price_table(text, 23, &small(), april)?;
     Ok(())
 }
 
@@ -193,10 +193,10 @@ fn stacks(text: &mut String, november: &Facts, idle: &Facts) -> Result<(), fmt::
     let affordability = AFFORDABILITY.on(small());
     let interim = Interim.on(small());
     let weather = WEATHER.on(small());
-    table(text, 24, &SECOND_AFFORDABILITY.on(affordability), november)?;
-    table(text, 25, &Interim.on(interim), november)?;
-    table(text, 26, &WEATHER.on(weather), november)?;
-    table(text, 27, &FRANCHISE.on(large()), idle)?;
+    price_table(text, 24, &SECOND_AFFORDABILITY.on(affordability), november)?;
+    price_table(text, 25, &Interim.on(interim), november)?;
+    price_table(text, 26, &WEATHER.on(weather), november)?;
+    price_table(text, 27, &FRANCHISE.on(large()), idle)?;
     Ok(())
 }
 
@@ -276,7 +276,7 @@ pub fn output(alloc: Global) -> anyhow::Result<String>
     ensures { IfOk result (λ text. PrintsAll (string_bytes text)) }
 {
     let mut text = String::new(alloc);
-    head(&mut text)?;
+    price_header(&mut text)?;
     mixed_months(&mut text, alloc)?;
     full_months(&mut text, alloc)?;
     spring_months(&mut text, alloc)?;

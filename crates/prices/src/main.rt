@@ -3,8 +3,6 @@
 
 mod cases;
 mod days;
-mod rows;
-mod tables;
 mod terms;
 
 use cases::output;

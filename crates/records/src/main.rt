@@ -1,15 +1,12 @@
 //! Lists a journal from standard input, a row for each record.
 #![tactic(auto)]
 
-mod listing;
-mod rows;
-
 use journal::load;
-use listing::output;
+use report::journal_listing;
 
 fn main(rt: HostRuntime) -> anyhow::Result<()> {
     let alloc = rt.alloc();
     let journal = load(alloc, rt.stdin())?;
-    rt.print(output(alloc, journal)?)?;
+    rt.print(journal_listing(alloc, journal)?)?;
     Ok(())
 }

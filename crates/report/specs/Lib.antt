@@ -1,3 +1,6 @@
+pub mod Listing
+pub mod Named
 pub mod Outputs
-pub mod Tariffs
+pub mod Prices
 pub mod Rows
+pub mod Tariffs

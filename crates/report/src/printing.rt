@@ -1,5 +1,5 @@
 //! All that the program prints.
-ghost use Rattle.std.specs.Prelude.{◌≡◌, ◌++◌, OnOk, IfOk, string_bytes, vec_items};
+ghost use Rattle.std.specs.Prelude.{◌≡◌, ◌++◌, OnOk, IfOk, codes, string_bytes, vec_items};
 ghost use Rattle.std.specs.Option.{option_map};
 ghost use Rattle.report.specs.Outputs.{Prints, PrintsPlayed};
 ghost use Rattle.report.specs.Rows.{account_text, lines_text, refusals_text};
@@ -46,6 +46,15 @@ fn write_account<S: Schedule>(text: &mut String, account: &Account<S>) -> Result
     Ok(())
 }
 
+/// The one row of an input that is too long to be a journal (`docs/JOURNAL.md`).
+pub fn too_long(alloc: Global) -> Result<String, fmt::Error>
+    ensures { IfOk result (λ text. string_bytes text ≡ codes "too long\n") }
+{
+    let mut text = String::new(alloc);
+    writeln!(text, "too long")?;
+    Ok(text)
+}
+
 // What was refused of a journal, and the account that it made.
 fn played(alloc: Global, journal: &[u8]) -> Result<String, fmt::Error>
     ensures { IfOk result (λ text. PrintsPlayed journal.now (string_bytes text)) }
@@ -58,15 +67,13 @@ fn played(alloc: Global, journal: &[u8]) -> Result<String, fmt::Error>
     Ok(text)
 }
 
-/// All that the program prints of a journal, or of an input that was too long to be one
+/// All that `lines` prints of a journal, or of an input that was too long to be one
 /// (`docs/ACCOUNT.md`).
 pub fn output(alloc: Global, journal: Option<Vec<u8>>) -> Result<String, fmt::Error>
     ensures { IfOk result (λ text. Prints (option_map vec_items journal) (string_bytes text)) }
 {
     let Some(bytes) = journal else {
-        let mut text = String::new(alloc);
-        writeln!(text, "too long")?;
-        return Ok(text);
+        return too_long(alloc);
     };
     played(alloc, &bytes)
 }

@@ -6,11 +6,11 @@ pub returns : goal.returns
 unfolding dual_fuel_text
 returns c =
     rw (
-      c.in_ok-table-5.ensures,
-      c.in_ok-table-4.ensures,
-      c.in_ok-table-3.ensures,
-      c.in_ok-table-2.ensures,
-      c.in_ok-table.ensures,
+      c.in_ok-price_table-5.ensures,
+      c.in_ok-price_table-4.ensures,
+      c.in_ok-price_table-3.ensures,
+      c.in_ok-price_table-2.ensures,
+      c.in_ok-price_table.ensures,
       c.small.ensures,
       c.small-2.ensures,
       c.large.ensures,

@@ -6,8 +6,8 @@ pub returns : goal.returns
 unfolding firm_and_tolerance_text
 returns c =
     rw (
-      c.in_ok-table-4.ensures,
-      c.in_ok-table-3.ensures,
-      c.in_ok-table-2.ensures,
-      c.in_ok-table.ensures,
+      c.in_ok-price_table-4.ensures,
+      c.in_ok-price_table-3.ensures,
+      c.in_ok-price_table-2.ensures,
+      c.in_ok-price_table.ensures,
     ) (simp append_assoc)

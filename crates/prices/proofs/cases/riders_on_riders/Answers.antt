@@ -6,10 +6,10 @@ pub returns : goal.returns
 unfolding riders_on_riders_text
 returns c =
     rw (
-      c.in_ok-table-4.ensures,
-      c.in_ok-table-3.ensures,
-      c.in_ok-table-2.ensures,
-      c.in_ok-table.ensures,
+      c.in_ok-price_table-4.ensures,
+      c.in_ok-price_table-3.ensures,
+      c.in_ok-price_table-2.ensures,
+      c.in_ok-price_table.ensures,
       c.on-7.ensures.rider,
       c.on-7.ensures.below,
       c.on-6.ensures.rider,

@@ -4,8 +4,8 @@ use Rattle.prices.proofs.cases.seasons.Goals as goal
 pub returns : goal.returns
 returns c =
     rw (
-      c.in_ok-table-2.ensures,
-      c.in_ok-table.ensures,
+      c.in_ok-price_table-2.ensures,
+      c.in_ok-price_table.ensures,
       c.small.ensures,
       c.small-2.ensures,
       append_assoc,

@@ -4,10 +4,10 @@ use Rattle.prices.proofs.cases.stacks.Goals as goal
 pub returns : goal.returns
 returns c =
     rw (
-      c.in_ok-table-4.ensures,
-      c.in_ok-table-3.ensures,
-      c.in_ok-table-2.ensures,
-      c.in_ok-table.ensures,
+      c.in_ok-price_table-4.ensures,
+      c.in_ok-price_table-3.ensures,
+      c.in_ok-price_table-2.ensures,
+      c.in_ok-price_table.ensures,
       c.on-4.ensures.rider,
       c.on-3.ensures.rider,
       c.on-3.ensures.below,

@@ -1,8 +1,8 @@
 use Rattle.std.proofs.Common.{arith}
-use Rattle.records.proofs.Turns.{few, ended, refused}
-use Rattle.records.proofs.listing.list.Goals as goal
-use Rattle.records.proofs.listing.list.Goals.{in-None, in-Some+in-Ok-None}
-use Rattle.records.proofs.listing.list.Goals.{in-Some+in-Err+in_ok-writeln-in-Err}
+use Rattle.report.proofs.Turns.{few, ended, refused}
+use Rattle.report.proofs.listing.list.Goals as goal
+use Rattle.report.proofs.listing.list.Goals.{in-None, in-Some+in-Ok-None}
+use Rattle.report.proofs.listing.list.Goals.{in-Some+in-Err+in_ok-writeln-in-Err}
 
 pub returns : goal.returns
 returns c =

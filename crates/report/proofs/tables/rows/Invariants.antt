@@ -1,7 +1,7 @@
 use Rattle.std.proofs.Common.{◌≡◌, ◌++◌, drop, string_bytes}
 use Rattle.gas.specs.Facts.{facts_of}
-use Rattle.prices.specs.Rows.{table_text}
-use Rattle.prices.proofs.tables.rows.Given as goal
+use Rattle.report.specs.Prices.{table_text}
+use Rattle.report.proofs.tables.rows.Given as goal
 
 abbrev pub invariant-loop-item : goal.invariant-loop-item
 invariant-loop-item g l =

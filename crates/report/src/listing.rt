@@ -1,9 +1,10 @@
 //! The listing of a whole journal.
 ghost use Rattle.std.specs.Prelude.{IfOk, vec_items, string_bytes};
 ghost use Rattle.std.specs.Option.{option_map};
-ghost use Rattle.records.specs.Rows.{Lists, Writes};
+ghost use Rattle.report.specs.Listing.{Lists, Writes};
 
-use crate::rows::{Refusal, Row};
+use crate::printing::too_long;
+use crate::records::{RecordRow, UnreadRow};
 use journal::Reader;
 use std::alloc::Global;
 use std::fmt;
@@ -17,10 +18,10 @@ fn list(alloc: Global, journal: &[u8]) -> Result<String, fmt::Error>
     let mut reader = Reader::new(journal);
     for number in 1.. {
         match reader.next() {
-            Ok(Some(located)) => writeln!(text, "{}", Row { number, located })?,
+            Ok(Some(located)) => writeln!(text, "{}", RecordRow { number, located })?,
             Ok(None) => break,
             Err(fault) => {
-                writeln!(text, "{}", Refusal { number, fault })?;
+                writeln!(text, "{}", UnreadRow { number, fault })?;
                 break;
             }
         }
@@ -28,15 +29,13 @@ fn list(alloc: Global, journal: &[u8]) -> Result<String, fmt::Error>
     Ok(text)
 }
 
-/// All that the program writes of a journal, or of an input that was too long to be one
+/// All that `records` prints of a journal, or of an input that was too long to be one
 /// (`docs/JOURNAL.md`).
-pub fn output(alloc: Global, journal: Option<Vec<u8>>) -> Result<String, fmt::Error>
+pub fn journal_listing(alloc: Global, journal: Option<Vec<u8>>) -> Result<String, fmt::Error>
     ensures { IfOk result (λ text. Writes (option_map vec_items journal) (string_bytes text)) }
 {
     let Some(bytes) = journal else {
-        let mut text = String::new(alloc);
-        writeln!(text, "too long")?;
-        return Ok(text);
+        return too_long(alloc);
     };
     list(alloc, &bytes)
 }

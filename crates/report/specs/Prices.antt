@@ -5,7 +5,8 @@ use Rattle.gas.specs.declared.items.Item.{Item}
 use Rattle.gas.specs.declared.items.PriceValues.{PriceValues}
 use Rattle.gas.specs.declared.items.ScheduleFault.{ScheduleFault}
 use Rattle.gas.specs.Faults.{schedule_values}
-use Rattle.gas.specs.Items.{item_number}
+use Rattle.gas.specs.Facts.{MonthFacts}
+use Rattle.gas.specs.Items.{all_items, item_number}
 use Rattle.gas.specs.Limits.{Answer}
 
 -- what the fields of a row are
@@ -37,3 +38,11 @@ answer_text n item (Err fault) = refusal_text n item fault
 -- a row for each item, each ended by a newline
 abbrev pub table_text : ℕ → (Item → Answer) → List Item → List ℕ
 table_text n price items = flat_map (λ item. answer_text n item (price item) ++ codes "\n") items
+
+-- what a schedule answers for a month's facts and an item
+abbrev pub Price : Type 0
+Price = MonthFacts → Item → Answer
+
+-- the table of a case: what its schedule answers for each of the ten items of a month
+unfoldable pub case_text : ℕ → Price → MonthFacts → List ℕ
+case_text number price month = table_text number (price month) all_items

@@ -5,7 +5,7 @@ use Rattle.journal.specs.declared.faults.ReadFault.{ReadFault}
 use Rattle.journal.specs.declared.kinds.Located.{Located}
 use Rattle.journal.specs.Reading.{answer_at, offset_after, Gives}
 use Rattle.journal.proofs.RoundTrips.{moves_on}
-use Rattle.records.specs.Rows.{row_text, refusal_text, listing_text, Lists}
+use Rattle.report.specs.Listing.{row_text, refusal_text, listing_text, Lists}
 
 -- the text lists the journal up to offset i, k - 1 records: with what a reader of the bytes rs
 -- gives from there on it lists the whole

@@ -1,6 +1,6 @@
 use Rattle.std.proofs.Common.{string_bytes}
-use Rattle.records.proofs.Turns.{Sofar}
-use Rattle.records.proofs.listing.list.Given as goal
+use Rattle.report.proofs.Turns.{Sofar}
+use Rattle.report.proofs.listing.list.Given as goal
 
 abbrev pub invariant-loop-number : goal.invariant-loop-number
 invariant-loop-number l =

@@ -1,6 +1,6 @@
 use Rattle.std.proofs.Common.{append_assoc, append-nil}
 use Rattle.std.proofs.Output.{has_written_of_eq}
-use Rattle.records.proofs.rows.NamedDisplay.fmt.Goals as goal
+use Rattle.report.proofs.records.NamedDisplay.fmt.Goals as goal
 
 pub returns-clause-writes : goal.returns-clause-writes
 returns-clause-writes g c =

@@ -1,7 +1,7 @@
 //! The text of one record, and of a refusal.
 ghost use Rattle.std.specs.Prelude.{Some};
 ghost use Rattle.journal.specs.Format.{day_fields};
-ghost use Rattle.records.specs.Rows.{day_names, fields_text, record_text, row_text, refusal_text};
+ghost use Rattle.report.specs.Listing.{day_names, fields_text, record_text, row_text, refusal_text};
 
 use gas::{ClosingNumbers, DayNumbers};
 use journal::{Day, Located, ReadFault, Record};
@@ -85,12 +85,12 @@ impl fmt::Display for Described {
 /// A record with its number in the journal, counted from 1; its text is a row of the listing
 /// (`docs/JOURNAL.md`).
 #[derive(Clone, Copy, Debug, PartialEq, Eq)]
-pub struct Row {
+pub struct RecordRow {
     pub number: usize,
     pub located: Located,
 }
 
-impl fmt::Display for Row {
+impl fmt::Display for RecordRow {
     ghost output = { λ r. Some (row_text r.number r.located) };
 
     fn fmt<W: fmt::Write>(&self, f: &mut fmt::Formatter<W>) -> fmt::Result {
@@ -102,12 +102,12 @@ impl fmt::Display for Row {
 /// The refusal at which reading stops, and the number of the record that it met; its text is the
 /// last row of the listing (`docs/JOURNAL.md`).
 #[derive(Clone, Copy, Debug, PartialEq, Eq)]
-pub struct Refusal {
+pub struct UnreadRow {
     pub number: usize,
     pub fault: ReadFault,
 }
 
-impl fmt::Display for Refusal {
+impl fmt::Display for UnreadRow {
     ghost output = { λ r. Some (refusal_text r.number r.fault) };
 
     fn fmt<W: fmt::Write>(&self, f: &mut fmt::Formatter<W>) -> fmt::Result {

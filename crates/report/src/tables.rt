@@ -1,15 +1,14 @@
 //! The rows of a month on a schedule.
 ghost use Rattle.std.specs.Prelude.{◌≡◌, ◌++◌, OnOk, codes, string_bytes};
 ghost use Rattle.gas.specs.Facts.{facts_of};
-ghost use Rattle.prices.specs.Cases.{case_text};
-ghost use Rattle.prices.specs.Rows.{header, table_text};
+ghost use Rattle.report.specs.Prices.{case_text, header, table_text};
 
-use crate::rows::Row;
+use crate::prices::PriceRow;
 use gas::{Facts, Item, Schedule};
 use std::fmt;
 
 /// The row above all others (`docs/TARIFF.md`).
-pub fn head(text: &mut String) -> Result<(), fmt::Error>
+pub fn price_header(text: &mut String) -> Result<(), fmt::Error>
     ensures { OnOk result (string_bytes text.new ≡
         string_bytes text.old ++ (header ++ codes "\n")) }
 {
@@ -31,7 +30,7 @@ fn rows<S: Schedule>(
 {
     for item in items {
         let answer = schedule.price(facts, *item);
-        let row = Row {
+        let row = PriceRow {
             case,
             item: *item,
             answer: answer.map(|amount| amount.millicents),
@@ -42,8 +41,8 @@ fn rows<S: Schedule>(
 }
 
 /// A row for each item of a month (`docs/TARIFF.md`).
-#[tactic(auto, unfolding(crate::specs::Cases::case_text))]
-pub fn table<S: Schedule>(
+#[tactic(auto, unfolding(crate::specs::Prices::case_text))]
+pub fn price_table<S: Schedule>(
     text: &mut String,
     case: u8,
     schedule: &S,

@@ -1,19 +1,24 @@
 //! What is printed of one journal.
 ghost use Rattle.std.specs.Prelude.{IfOk, string_bytes, vec_items};
 ghost use Rattle.std.specs.Option.{option_map};
-ghost use Rattle.batch.specs.Entries.{PrintsNamed};
+ghost use Rattle.report.specs.Named.{PrintsNamed};
 
+use crate::printing::output;
 use std::alloc::Global;
 use std::fmt;
 
 /// A row with the name of a journal's file, and what `lines` prints of the journal
 /// (`docs/ACCOUNT.md`).
-pub fn output(alloc: Global, name: &str, journal: Option<Vec<u8>>) -> Result<String, fmt::Error>
+pub fn named_output(
+    alloc: Global,
+    name: &str,
+    journal: Option<Vec<u8>>,
+) -> Result<String, fmt::Error>
     ensures { IfOk result (λ text.
         PrintsNamed name.now (option_map vec_items journal) (string_bytes text)) }
 {
     let mut text = String::new(alloc);
     writeln!(text, "journal {name}")?;
-    write!(text, "{}", report::output(alloc, journal)?)?;
+    write!(text, "{}", output(alloc, journal)?)?;
     Ok(text)
 }
