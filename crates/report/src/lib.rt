@@ -1,5 +1,6 @@
-//! Every text that a program prints: the lines of the account that a journal makes, what was refused
-//! and their sum; the same under a file's name; the listing of a journal; and tables of prices.
+//! Every text that a program prints: the lines of the account that a journal makes, what was
+//! refused and their sum; the same under a file's name; the listing of a journal; and tables of
+//! prices.
 #![tactic(auto)]
 
 mod listing;
