@@ -1,7 +1,7 @@
 //! What each refusal says to a person.
 use account::JournalFault;
-use gas::{InputFault, Item, Layer, ScheduleFault, message};
-use journal::{ReadFault, WriteFault};
+use gas::{InputFault, Item, Layer, ScheduleFault, WriteFault, message};
+use journal::ReadFault;
 use ledger::AccountFault;
 use std::test::Fail;
 
@@ -26,7 +26,8 @@ fn faults_tell_what_is_wrong_and_its_limit(rt: HostRuntime) -> Result<(), Fail> 
     let input = [
         (
             InputFault::Month,
-            "a month is above 11, or the first interim month comes after the last",
+            "a month is above 11 (12 in a statement), \
+             or the first interim month is after the last",
         ),
         (
             InputFault::Day,
@@ -100,7 +101,7 @@ fn faults_tell_what_is_wrong_and_its_limit(rt: HostRuntime) -> Result<(), Fail> 
     let write = WriteFault::BufferTooShort;
     assert_eq!(rt;
         format!(in alloc; "{write}")?.as_str(),
-        "the buffer is shorter than the record"
+        "the buffer is shorter than what is to be written"
     );
     Ok(())
 }

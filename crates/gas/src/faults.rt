@@ -9,7 +9,7 @@ use std::fmt;
 /// Why numbers from outside are refused, by the number of the refusal (`docs/TARIFF.md`).
 #[derive(Clone, Copy, Debug, PartialEq, Eq)]
 pub enum InputFault {
-    /// A month above 11, or a first interim month after the last.
+    /// A month above 11, of a statement above 12, or a first interim month after the last.
     Month = 3,
     /// A day that the month does not have.
     Day = 4,

@@ -1,9 +1,10 @@
 //! What a gas account is made of: therms, money and rates, the calendar, the raw numbers of days
-//! and months and the lawful values that are made of them, every refusal of such numbers, and the
-//! interfaces of pipelines and rate schedules.
+//! and months and the lawful values that are made of them, every refusal of such numbers, the
+//! interfaces of pipelines and rate schedules, and putting bytes into a caller's buffer.
 #![tactic(auto)]
 
 mod amount;
+mod buffers;
 mod calendar;
 mod day;
 mod facts;
@@ -18,6 +19,7 @@ mod units;
 mod worked;
 
 pub use amount::{Amount, MOST_AMOUNT};
+pub use buffers::{WriteFault, put};
 pub use calendar::{LAST_MONTH, Month};
 pub use day::{DayKind, DayNumbers, DayRecord, MOST_A_DAY};
 pub use facts::{Facts, MOST_DAYS, MonthNumbers, WholeMonth};

@@ -7,7 +7,7 @@ const MESSAGES: [(u8, &str); 22] = [
     (2, "the journal ends inside a record"),
     (
         3,
-        "a month is above 11, or the first interim month comes after the last",
+        "a month is above 11 (12 in a statement), or the first interim month is after the last",
     ),
     (4, "the day is 0, or the month does not have it"),
     (5, "the kind of a day is above 3"),
@@ -21,7 +21,7 @@ const MESSAGES: [(u8, &str); 22] = [
         "a per mille is above 1000, or a percentage is above its limit",
     ),
     (9, "the payment is 0, or above 10000000000000 millicents"),
-    (10, "the buffer is shorter than the record"),
+    (10, "the buffer is shorter than what is to be written"),
     (
         11,
         "the weather rider's gas year starts outside 2020 to 2026",

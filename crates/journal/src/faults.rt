@@ -1,6 +1,6 @@
 //! Why a journal record is refused.
 ghost use Rattle.std.specs.Prelude.{◌≡◌};
-ghost use Rattle.journal.specs.Faults.{read_number, write_number};
+ghost use Rattle.journal.specs.Faults.{read_number};
 
 use gas::message;
 use std::error::Error;
@@ -24,22 +24,6 @@ impl ReadFault {
     }
 }
 
-/// Why a record is not written, by the number of the refusal (`docs/JOURNAL.md`).
-#[derive(Clone, Copy, Debug, PartialEq, Eq)]
-pub enum WriteFault {
-    /// The caller's buffer is shorter than the record.
-    BufferTooShort = 10,
-}
-
-impl WriteFault {
-    /// The number of the refusal (`docs/JOURNAL.md`).
-    pub fn number(self) -> u8
-        ensures { result ≡ write_number self }
-    {
-        self as u8
-    }
-}
-
 impl fmt::Display for ReadFault {
     fn fmt<W: fmt::Write>(&self, f: &mut fmt::Formatter<W>) -> fmt::Result {
         f.write_str(message(self.number()))
@@ -47,11 +31,3 @@ impl fmt::Display for ReadFault {
 }
 
 impl Error for ReadFault {}
-
-impl fmt::Display for WriteFault {
-    fn fmt<W: fmt::Write>(&self, f: &mut fmt::Formatter<W>) -> fmt::Result {
-        f.write_str(message(self.number()))
-    }
-}
-
-impl Error for WriteFault {}

@@ -8,7 +8,7 @@ mod kinds;
 mod reader;
 mod writer;
 
-pub use faults::{ReadFault, WriteFault};
+pub use faults::ReadFault;
 pub use input::{MOST_BYTES, load};
 pub use kinds::{Day, Located, Record};
 pub use reader::Reader;

@@ -5,21 +5,10 @@ ghost use Rattle.journal.specs.Format.{fields_of, record_bytes};
 ghost use Rattle.journal.specs.Numbers.{Fit};
 ghost use Rattle.journal.specs.declared.kinds.Record.TheVariants.{Open, Close, Pay, Settle};
 ghost use Rattle.journal.specs.RoundTrips.{ReadsBack};
-ghost use Rattle.journal.specs.Writing.{put_answer, buffer_with, write_answer, buffer_after};
+ghost use Rattle.journal.specs.Writing.{write_answer, buffer_after};
 
-use crate::faults::WriteFault;
 use crate::kinds::{Day, Record};
-use gas::ClosingNumbers;
-
-// The bytes at the start of the buffer, or a refusal where they have no room.
-fn put<const N: usize>(buffer: &mut [u8], bytes: &[u8; N]) -> Result<usize, WriteFault>
-    ensures answers { result ≡ put_answer bytes.now buffer.old }
-    ensures leaves { buffer.new ≡ buffer_with bytes.now buffer.old }
-{
-    let room = buffer.first_chunk_mut().ok_or(WriteFault::BufferTooShort)?;
-    *room = *bytes;
-    Ok(N)
-}
+use gas::{ClosingNumbers, WriteFault, put};
 
 // The bytes of a record of the kind that carries a day.
 fn day_bytes(kind: u8, day: Day) -> [u8; 29]

@@ -4,7 +4,7 @@
 
 #[cfg(test)]
 mod tests {
-    use gas::{ClosingNumbers, DayNumbers};
+    use gas::{ClosingNumbers, DayNumbers, WriteFault};
     use journal::*;
     use std::process::Abort;
     use std::test::Fail;
