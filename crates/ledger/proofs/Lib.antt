@@ -6,5 +6,7 @@ pub mod Known
 pub mod Law
 pub mod Months
 pub mod Places
+pub mod Printing
+pub mod Stepping
 pub mod Storing
 pub mod Totals

@@ -1,12 +1,15 @@
 pub mod Calls
+pub mod Cents
 pub mod Days
 pub mod Due
 pub mod Faults
 pub mod Headings
 pub mod Peaks
 pub mod Prices
+pub mod Printed
 pub mod Questions
 pub mod Runs
+pub mod Statements
 pub mod Sums
 pub mod Worked
 pub mod Year

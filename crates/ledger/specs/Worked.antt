@@ -1,7 +1,14 @@
 -- The limits of an account, held against what was laid down.
 use Rattle.std.specs.Prelude.{ℕ, List, [], ◌∷◌}
-use Rattle.ledger.specs.declared.lines.TheConstants.{MOST_LINES, MOST_PAID}
+use Rattle.ledger.specs.declared.cents.TheConstants.{MILLICENTS_A_CENT}
+use Rattle.ledger.specs.declared.lines.TheConstants.{LAST_ITEM, MOST_LINES, MOST_PAID, WHOLE_YEAR}
 
--- the most lines and the most that can be paid at once, each with what was laid down
+-- the most lines, the most that can be paid at once, the month and the last item of lines that are
+-- not priced, and how many millicents make a cent, each with what was laid down
 abbrev pub limits : List (ℕ × ℕ)
-limits = (MOST_LINES, 1024) ∷ (MOST_PAID, 10000000000000) ∷ []
+limits =
+    (MOST_LINES, 1024) ∷
+    (MOST_PAID, 10000000000000) ∷
+    (WHOLE_YEAR, 12) ∷
+    (LAST_ITEM, 13) ∷
+    (MILLICENTS_A_CENT, 1000) ∷ []

@@ -3,10 +3,16 @@
 //! runs.
 #![tactic(auto)]
 
+mod cents;
 mod faults;
 mod lines;
+mod statement;
 mod worked;
 
+pub use cents::{Cents, MILLICENTS_A_CENT};
 pub use faults::AccountFault;
-pub use lines::{Heading, Line, MOST_LINES, MOST_PAID, SignedTherms, Target};
+pub use lines::{
+    Heading, LAST_ITEM, Line, MOST_LINES, MOST_PAID, SignedTherms, Target, WHOLE_YEAR,
+};
+pub use statement::{MOST_TEXT, NumberedLine, Statement};
 pub use worked::worked_limits;

@@ -5,15 +5,10 @@ use Rattle.std.proofs.Math.ListN.{drop}
 use Rattle.std.proofs.Math.Seq.{drop-cons}
 use Rattle.std.proofs.lemmas.Option.{get_or_from_slice_get, slice_get_within}
 use Rattle.std.specs.List.{slice_get}
-use Rattle.std.specs.Option.{ok_or}
 use Rattle.ledger.specs.declared.lines.Line.{Line}
-use Rattle.ledger.specs.declared.faults.AccountFault.TheVariants.{NoLine}
 use Rattle.ledger.specs.Questions.{numbered_line}
+use Rattle.ledger.proofs.Stepping.{was_found}
 use Rattle.report.specs.Rows.{line_text, lines_text}
-
-was_found : (o : Option Line) (line : Line) → ok_or o NoLine ≡ Ok line → o ≡ Some line
-was_found (Some x) line e = cc
-was_found None line e = cc
 
 -- what is left of some lines from the one at an index on
 rest_from :

@@ -1,15 +1,17 @@
 //! What an account answers to questions, of which none changes it.
-ghost use Rattle.std.specs.Prelude.{◌≡◌, ◌≤◌, length};
+ghost use Rattle.std.specs.Prelude.{◌≡◌, ◌≤◌, IfOk, length};
+ghost use Rattle.gas.specs.Inputs.{answer_by};
 ghost use Rattle.ledger.specs.declared.lines.TheConstants.{MOST_LINES};
 ghost use Rattle.ledger.specs.Prices.{open_therms};
 ghost use Rattle.ledger.specs.Questions.{IsPeakAnswer, numbered_line, sum_of_all};
 ghost use Rattle.ledger.specs.Runs.{RunsAddUp};
+ghost use Rattle.ledger.specs.Statements.{StepsThrough, begun_statement, reading_of};
 ghost use Rattle.ledger.specs.Year.{IsComplete};
 ghost use Rattle.account.specs.Histories.{AddsUpByItsHistories};
 
 use crate::account::Account;
 use gas::{Millicents, Month, Schedule};
-use ledger::{AccountFault, Line, SignedTherms};
+use ledger::{AccountFault, Line, SignedTherms, Statement};
 
 impl<S: Schedule> Account<S> {
     /// How many lines there are; and what is true of every account: the months closed are the first
@@ -30,6 +32,19 @@ impl<S: Schedule> Account<S> {
         ensures { result ≡ numbered_line self.now.state.lines number }
     {
         self.book.line(number)
+    }
+
+    /// The statement of a month, 12 for the year as a whole: the account's lines of that month, to
+    /// step through and to print. Refused with 3 is a month above 12; nothing else is, before the
+    /// opening too (`docs/STATEMENTS.md`).
+    ///
+    /// The law of statements stands here: stepped through to its end, one gives the whole month.
+    pub fn statement(&self, month: u8) -> Result<Statement<'_>, AccountFault>
+        ensures is { answer_by reading_of result ≡
+            begun_statement self.now.state.lines month }
+        ensures steps { IfOk result (StepsThrough self.now.state.lines month) }
+    {
+        Statement::new(self.book.lines(), month)
     }
 
     /// What all lines add up to, in millicents (`docs/ACCOUNT.md`).
