@@ -1,3 +1,4 @@
+pub mod Months
 pub mod Numbered
 pub mod Turns
 pub mod Whole

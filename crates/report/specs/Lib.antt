@@ -3,4 +3,5 @@ pub mod Named
 pub mod Outputs
 pub mod Prices
 pub mod Rows
+pub mod Statements
 pub mod Tariffs

@@ -2,8 +2,12 @@
 use Rattle.std.specs.Prelude.{◌≡◌, ℕ, List, ◌++◌, codes, Option}
 use Rattle.report.specs.Outputs.{Prints}
 
--- a row with the name of its file, and then what is printed of a journal alone
+-- the row with the name of a journal's file
+abbrev pub name_row : List ℕ → List ℕ
+name_row name = codes "journal " ++ (name ++ codes "\n")
+
+-- this row, and then what is printed of the journal alone
 abbrev pub PrintsNamed : List ℕ → Option (List ℕ) → List ℕ → Type 0
 PrintsNamed name journal text =
     (printed : List ℕ) × Prints journal printed ×
-    (text ≡ codes "journal " ++ (name ++ (codes "\n" ++ printed)))
+    (text ≡ name_row name ++ printed)

@@ -7,12 +7,14 @@ use Rattle.ledger.specs.Runs.{new_state}
 use Rattle.report.specs.Tariffs.{fixed_tariff}
 use Rattle.report.specs.Rows.{played_text}
 
--- the text of the account that a journal makes of a new one, on the program's tariff, and of what
--- was refused on the way
+-- what a journal makes of a new account on the program's tariff, and what was refused on the way
+abbrev pub PlaysInto : List ℕ → State → List Refusal → Type 0
+PlaysInto bytes b refusals = Played fixed_tariff bytes new_state b refusals
+
+-- the text of this account, and of what was refused
 abbrev pub PrintsPlayed : List ℕ → List ℕ → Type 0
 PrintsPlayed bytes text =
-    (b : State) × (refusals : List Refusal) ×
-    Played fixed_tariff bytes new_state b refusals ×
+    (b : State) × (refusals : List Refusal) × PlaysInto bytes b refusals ×
     (text ≡ played_text refusals b.lines)
 
 -- by the input, or none where it has more than 65,536 bytes: then the one row is `too long`

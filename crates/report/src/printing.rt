@@ -4,15 +4,16 @@ ghost use Rattle.std.specs.Option.{option_map};
 ghost use Rattle.report.specs.Outputs.{Prints, PrintsPlayed};
 ghost use Rattle.report.specs.Rows.{account_text, lines_text, refusals_text};
 
+use crate::playing::play;
 use crate::rows::{LineRow, RefusalRow};
-use crate::schedule::schedule;
 use account::{Account, Refusal};
 use gas::Schedule;
+use ledger::NumberedLine;
 use std::alloc::Global;
 use std::fmt;
 
-// A row for each refusal, in order.
-fn write_refusals(text: &mut String, refusals: &[Refusal]) -> Result<(), fmt::Error>
+/// A row for each refusal, in order (`docs/ACCOUNT.md`).
+pub fn write_refusals(text: &mut String, refusals: &[Refusal]) -> Result<(), fmt::Error>
     ensures { OnOk result (string_bytes text.new ≡
         string_bytes text.old ++ refusals_text refusals.now) }
 {
@@ -30,7 +31,7 @@ fn write_lines<S: Schedule>(text: &mut String, account: &Account<S>) -> Result<(
     for index in 0..account.line_count() {
         let number = index + 1;
         let line = account.line(number).unwrap();
-        writeln!(text, "{}", LineRow { number, line })?;
+        writeln!(text, "{}", LineRow(NumberedLine { number, line }))?;
     }
     Ok(())
 }
@@ -59,8 +60,7 @@ pub fn too_long(alloc: Global) -> Result<String, fmt::Error>
 fn played(alloc: Global, journal: &[u8]) -> Result<String, fmt::Error>
     ensures { IfOk result (λ text. PrintsPlayed journal.now (string_bytes text)) }
 {
-    let mut account = Account::new(schedule());
-    let refusals = account.play(alloc, journal)?;
+    let (account, refusals) = play(alloc, journal)?;
     let mut text = String::new(alloc);
     write_refusals(&mut text, &refusals)?;
     write_account(&mut text, &account)?;

@@ -3,31 +3,24 @@ ghost use Rattle.std.specs.Prelude.{Some};
 ghost use Rattle.report.specs.Rows.{line_text, refusal_text};
 
 use account::Refusal;
-use ledger::Line;
+use ledger::NumberedLine;
 use std::fmt;
 
 /// A line with its number, counted from 1 (`docs/ACCOUNT.md`).
 #[derive(Clone, Copy, Debug, PartialEq, Eq)]
-pub struct LineRow {
-    pub number: usize,
-    pub line: Line,
-}
+pub struct LineRow(pub NumberedLine);
 
 impl fmt::Display for LineRow {
-    ghost output = { λ r. Some (line_text r.number r.line) };
+    ghost output = { λ r. Some (line_text r.0.number r.0.line) };
 
     fn fmt<W: fmt::Write>(&self, f: &mut fmt::Formatter<W>) -> fmt::Result {
-        let Line {
-            heading,
-            therms,
-            money,
-        } = self.line;
-        let month = heading.month();
-        let item = heading.item();
+        let NumberedLine { number, line } = self.0;
+        let month = line.heading.month();
+        let item = line.heading.item();
         write!(
             f,
-            "{} {month} {item} {} {}",
-            self.number, therms.count, money.amount
+            "{number} {month} {item} {} {}",
+            line.therms.count, line.money.amount
         )
     }
 }

@@ -1,4 +1,4 @@
-use Rattle.std.proofs.Common.{◌≡◌, ◌++◌, ap, string_bytes}
+use Rattle.std.proofs.Common.{◌≡◌, ◌++◌, string_bytes}
 use Rattle.report.specs.Rows.{refusals_text}
 use Rattle.report.proofs.Whole.{played_is_printed}
 use Rattle.report.proofs.printing.played.Goals as goal
@@ -6,9 +6,7 @@ use Rattle.report.proofs.printing.played.Goals as goal
 pub returns : goal.returns
 returns c =
     let first : string_bytes c.write_refusals.new.text ≡ string_bytes c.new-text.result ++
-    refusals_text c.in_ok-refusals.refusals.items = rw
+    refusals_text c.in_ok-account.refusals.items = rw
     (← c.deref.ensures.value) c.in_ok-write_refusals.ensures in
-    played_is_printed _ _ (string_bytes c.new-text.result)
-    (string_bytes c.write_refusals.new.text) _ _ _ _ (rw c.new-account.ensures c.schedule.ensures)
-    (ap (λ a. a.state) c.new-account.ensures) c.in_ok-refusals.ensures.played
-    c.new-text.ensures.bytes first c.in_ok-write_account.ensures
+    played_is_printed _ (string_bytes c.new-text.result) (string_bytes c.write_refusals.new.text) _
+    _ _ c.in_ok-account.ensures c.new-text.ensures.bytes first c.in_ok-write_account.ensures
