@@ -8,12 +8,15 @@
 pub mod account;
 pub mod calendar;
 pub mod cases;
+pub mod command;
 pub mod day;
+pub mod input;
 pub mod journal;
 pub mod money;
 pub mod pipeline;
 pub mod refusal;
 pub mod report;
 pub mod schedule;
+pub mod statement;
 pub mod weather;
 pub mod year;

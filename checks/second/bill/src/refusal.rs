@@ -8,7 +8,7 @@ pub enum Refusal {
     UnknownKind,
     /// The journal ends before the record's last byte.
     CutShort,
-    /// A month above 11, or a first interim month after the last.
+    /// A month above 11, of a statement above 12, or a first interim month after the last.
     Month,
     /// Day 0, or a day past the month's end.
     Day,

@@ -1,25 +1,98 @@
-//! What the two programs print. Each row is ended by a newline, and fields are one space apart.
+//! What the programs print. Each row is ended by a newline, and fields are one space apart.
 
 use crate::account::{Account, Line, RefusedRecord};
+use crate::calendar::MONTHS;
 use crate::cases::{account_schedule, cases, Case};
+use crate::refusal::Refusal;
 use crate::schedule::{Fault, Item, Price};
 
 /// A journal of more bytes is not played.
 pub const MOST_BYTES: usize = 65_536;
 
-/// What is printed of a journal: the refusals, the lines and their sum.
-pub fn lines(journal: &[u8]) -> String {
+/// The row for a journal that is not played.
+const TOO_LONG: &str = "too long\n";
+
+/// The account that a journal makes, and what is refused of it; none of one that is too long.
+fn played(journal: &[u8]) -> Option<(Account, Vec<RefusedRecord>)> {
     if journal.len() > MOST_BYTES {
-        return String::from("too long\n");
+        return None;
     }
     let mut account = Account::new(account_schedule());
     let refused = account.play(journal);
+    Some((account, refused))
+}
+
+/// What `lines` prints of a journal: the refusals, the lines and their sum.
+pub fn lines(journal: &[u8]) -> String {
+    let Some((account, refused)) = played(journal) else {
+        return String::from(TOO_LONG);
+    };
     let rows = refused
         .iter()
         .map(refused_row)
         .chain([String::from("no month item therms millicents\n")])
         .chain((1..).zip(account.lines()).map(line_row));
     rows.chain([format!("sum {}\n", account.total())]).collect()
+}
+
+/// What `statements` prints of a journal behind its name: the refusals, and the printed form of
+/// each month.
+pub fn statements(journal: &[u8]) -> String {
+    let Some((account, refused)) = played(journal) else {
+        return String::from(TOO_LONG);
+    };
+    let months = (0..=MONTHS)
+        .filter_map(|month| Some((month, account.statement(month).ok()?)))
+        .map(|(month, statement)| format!("month {month}\n{}", statement.printed()));
+    refused.iter().map(refused_row).chain(months).collect()
+}
+
+/// What a program prints on standard output and on standard error, and its exit status.
+#[derive(Clone, PartialEq, Eq, Debug, Default)]
+pub struct Printed {
+    pub output: String,
+    pub errors: String,
+    pub status: u8,
+}
+
+impl Printed {
+    /// Nothing on standard output.
+    fn refused(errors: String) -> Self {
+        Printed {
+            output: String::new(),
+            errors,
+            status: 1,
+        }
+    }
+}
+
+/// What `gasaccount` prints of a journal: a month's statement, behind the month's lines if these
+/// are asked for, and the refusals on standard error.
+pub fn statement(journal: &[u8], month: u8, with_lines: bool) -> Printed {
+    let Some((account, refused)) = played(journal) else {
+        return Printed::refused(String::from(TOO_LONG));
+    };
+    match account.statement(month) {
+        Ok(statement) => Printed {
+            output: statement
+                .clone()
+                .filter(|_| with_lines)
+                .map(line_row)
+                .chain([statement.printed()])
+                .collect(),
+            errors: refused.iter().map(refused_row).collect(),
+            status: 0,
+        },
+        Err(refusal) => no_statement(refusal, &month.to_string()),
+    }
+}
+
+/// What `gasaccount` prints where a word is no month of a statement.
+pub fn no_statement(refusal: Refusal, word: &str) -> Printed {
+    Printed::refused(format!(
+        "refused {}: a statement is of a month from 0 to {MONTHS}, not of {word}\n",
+        refusal.number()
+    ))
 }
 
 fn refused_row(record: &RefusedRecord) -> String {

@@ -124,3 +124,16 @@ impl Journal {
         }
     }
 }
+
+/// The example of the documents.
+pub fn worked_november() -> Journal {
+    Journal::default()
+        .open(0, 137, 0, 0)
+        .month(0, |day| balanced(0, day))
+        .close(0, 30_000, 1_000, 1_000)
+        .correct(Day {
+            reading: 90,
+            ..balanced(0, 30)
+        })
+        .settle(100, 20)
+}

@@ -1,18 +1,6 @@
 //! What `lines` prints, by journals whose figures are worked out by hand.
 
-use crate::common::{balanced, Day, Journal, DAYS};
-
-fn worked_november() -> Journal {
-    Journal::default()
-        .open(0, 137, 0, 0)
-        .month(0, |day| balanced(0, day))
-        .close(0, 30_000, 1_000, 1_000)
-        .correct(Day {
-            reading: 90,
-            ..balanced(0, 30)
-        })
-        .settle(100, 20)
-}
+use crate::common::{balanced, worked_november, Day, Journal, DAYS};
 
 #[test]
 fn the_worked_november() {

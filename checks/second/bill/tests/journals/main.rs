@@ -3,3 +3,4 @@
 mod common;
 mod law;
 mod lines;
+mod statements;
