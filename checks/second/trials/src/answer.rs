@@ -105,7 +105,7 @@ impl Answer {
     }
 }
 
-fn read_refusal(row: &str) -> Result<Refusal, String> {
+pub(crate) fn read_refusal(row: &str) -> Result<Refusal, String> {
     let fields: Vec<&str> = row.split(' ').collect();
     match fields[..] {
         ["refused", record, refused] => Ok(Refusal {

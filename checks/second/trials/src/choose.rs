@@ -5,7 +5,7 @@ use crate::book::PAYMENT;
 use crate::crew::work_through;
 use crate::journal::{journal, kind_of, Kind};
 use crate::records::places;
-use crate::run::{find, Desk, End};
+use crate::run::{find, Call, Desk, End};
 use crate::telling::telling;
 use std::collections::{BTreeMap, BTreeSet};
 use std::path::Path;
@@ -106,13 +106,16 @@ fn play(
     journal: &[u8],
 ) -> Result<(Answer, Vec<u8>), String> {
     let named = |reason: String| format!("journal {number} of seed {seed}: {reason}");
-    desk.lay(journal)
+    let name = "journal";
+    desk.lay(name, journal)
         .map_err(|error| named(error.to_string()))?;
-    let run = desk
-        .run(program)
-        .map_err(|error| format!("{} cannot be run: {error}", program.display()))?;
+    let run = desk.run(Call {
+        program,
+        arguments: &[],
+        input: Some(name),
+    })?;
     if run.end != End::Status(0) {
-        return Err(named(format!("{} {}", run.end, run.complaint)));
+        return Err(named(format!("{} {}", run.end, run.complaint())));
     }
     let answer =
         Answer::read(&run.output).map_err(|reason| named(format!("the output {reason}")))?;

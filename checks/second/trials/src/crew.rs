@@ -48,7 +48,8 @@ pub fn work_through<T: Send>(
     let spool = Spool::new()?;
     let desks: Vec<Desk> = (0..jobs.max(1))
         .map(|job| Desk::new(&spool.0, job))
-        .collect();
+        .collect::<Result<_, _>>()
+        .map_err(|error| format!("{}: {error}", spool.0.display()))?;
     let next = AtomicU64::new(0);
     let done = AtomicU64::new(0);
     let stop = AtomicBool::new(false);

@@ -1,8 +1,9 @@
-//! Seeded journals of a gas account, and the means to play them into two
-//! programs and compare what these print.
+//! Seeded journals of a gas account, and the means to play them into programs
+//! of two makers and compare what these print.
 
 pub mod answer;
 pub mod arguments;
+pub mod asking;
 pub mod book;
 pub mod choose;
 pub mod compare;
@@ -12,6 +13,7 @@ mod makers;
 pub mod random;
 pub mod records;
 pub mod run;
+pub mod sheet;
 pub mod telling;
 
 pub use journal::{journal, kind_of, Kind};

@@ -1,4 +1,4 @@
-//! Runs a program on a journal.
+//! Runs a program on journals.
 
 use std::fmt;
 use std::fs::{self, File};
@@ -9,7 +9,7 @@ use std::sync::{Mutex, MutexGuard, PoisonError};
 use std::thread;
 use std::time::{Duration, Instant};
 
-/// A program that takes longer than this for a journal is ended.
+/// A program that takes longer than this for a call is ended.
 const PATIENCE: Duration = Duration::from_secs(60);
 
 /// The program's whole path, so that it is not looked for elsewhere.
@@ -45,8 +45,29 @@ impl fmt::Display for End {
 pub struct Run {
     pub end: End,
     pub output: Vec<u8>,
+    /// Standard error.
+    pub errors: Vec<u8>,
+}
+
+impl Run {
     /// The beginning of standard error, where the run did not end well.
-    pub complaint: String,
+    pub fn complaint(&self) -> String {
+        if self.end == End::Status(0) {
+            return String::new();
+        }
+        let errors = String::from_utf8_lossy(&self.errors);
+        errors.trim_end().chars().take(500).collect()
+    }
+}
+
+/// A program with its arguments.
+#[derive(Clone, Copy, Debug)]
+pub struct Call<'a> {
+    pub program: &'a Path,
+    pub arguments: &'a [String],
+    /// The name of the journal that is its standard input; without one that
+    /// is empty.
+    pub input: Option<&'a str>,
 }
 
 struct Running {
@@ -55,34 +76,54 @@ struct Running {
     ended: bool,
 }
 
-/// A place to run programs at, one after another. The journal lies in a file
-/// that is standard input, and standard error goes into a file as well, so
-/// that standard output is all that is read while the program runs.
+/// A place to run programs at, one after another. Journals lie in files of a
+/// folder where the programs run, and one of them may be standard input.
+/// Standard error goes into a file as well, so that standard output is all
+/// that is read while the program runs.
 pub struct Desk {
-    journal: PathBuf,
-    complaint: PathBuf,
+    journals: PathBuf,
+    errors: PathBuf,
     running: Mutex<Option<Running>>,
 }
 
 impl Desk {
-    pub fn new(folder: &Path, number: usize) -> Desk {
-        Desk {
-            journal: folder.join(format!("{number}.journal")),
-            complaint: folder.join(format!("{number}.stderr")),
+    pub fn new(folder: &Path, number: usize) -> io::Result<Desk> {
+        let journals = folder.join(format!("{number}"));
+        fs::create_dir_all(&journals)?;
+        Ok(Desk {
+            journals,
+            errors: folder.join(format!("{number}.stderr")),
             running: Mutex::new(None),
-        }
+        })
     }
 
-    /// Lays the journal there for the runs that follow.
-    pub fn lay(&self, journal: &[u8]) -> io::Result<()> {
-        fs::write(&self.journal, journal)
+    /// Lays a journal there, under a name, for the runs that follow.
+    pub fn lay(&self, name: &str, journal: &[u8]) -> io::Result<()> {
+        fs::write(self.journals.join(name), journal)
     }
 
-    pub fn run(&self, program: &Path) -> io::Result<Run> {
-        let mut child = Command::new(program)
-            .stdin(File::open(&self.journal)?)
+    /// Takes a journal away.
+    pub fn take(&self, name: &str) -> io::Result<()> {
+        fs::remove_file(self.journals.join(name))
+    }
+
+    /// Runs a program to its end.
+    pub fn run(&self, call: Call) -> Result<Run, String> {
+        self.run_through(call)
+            .map_err(|error| format!("{} cannot be run: {error}", call.program.display()))
+    }
+
+    fn run_through(&self, call: Call) -> io::Result<Run> {
+        let input = match call.input {
+            Some(name) => File::open(self.journals.join(name))?.into(),
+            None => Stdio::null(),
+        };
+        let mut child = Command::new(call.program)
+            .args(call.arguments)
+            .current_dir(&self.journals)
+            .stdin(input)
             .stdout(Stdio::piped())
-            .stderr(File::create(&self.complaint)?)
+            .stderr(File::create(&self.errors)?)
             .spawn()?;
         let stdout = child.stdout.take();
         *self.lock() = Some(Running {
@@ -94,17 +135,10 @@ impl Desk {
         if let Some(mut stdout) = stdout {
             stdout.read_to_end(&mut output)?;
         }
-        let end = self.wait()?;
-        let complaint = if end == End::Status(0) {
-            String::new()
-        } else {
-            let bytes = fs::read(&self.complaint)?;
-            String::from_utf8_lossy(&bytes).chars().take(500).collect()
-        };
         Ok(Run {
-            end,
+            end: self.wait()?,
             output,
-            complaint,
+            errors: fs::read(&self.errors)?,
         })
     }
 

@@ -1,9 +1,10 @@
-//! Compares two programs on many journals: `compare ONE TWO` with options.
+//! Compares the programs of two makers on many journals: `compare` with the
+//! three programs of the one, the same three of the other, and options.
 
 use std::env;
 use std::process::ExitCode;
 use trials::arguments::Arguments;
-use trials::compare::{Comparison, Outcome};
+use trials::compare::{Comparison, Outcome, Programs};
 use trials::crew::usual_jobs;
 
 fn main() -> ExitCode {
@@ -12,8 +13,8 @@ fn main() -> ExitCode {
         Err(reason) => {
             eprintln!("compare: {reason}");
             eprintln!(
-                "usage: compare ONE TWO [--count N] [--seed S] [--from K] [--jobs J] \
-                 [--save FOLDER]"
+                "usage: compare LINES STATEMENTS GASACCOUNT LINES STATEMENTS GASACCOUNT \
+                 [--count N] [--seed S] [--from K] [--jobs J] [--save FOLDER]"
             );
             return ExitCode::from(2);
         }
@@ -36,10 +37,15 @@ fn main() -> ExitCode {
 
 fn read() -> Result<Comparison, String> {
     let names = ["count", "seed", "from", "jobs", "save"];
-    let arguments = Arguments::read(env::args().skip(1), 2, &names)?;
+    let arguments = Arguments::read(env::args().skip(1), 6, &names)?;
+    let programs = |first: usize| Programs {
+        lines: arguments.plain[first].clone().into(),
+        statements: arguments.plain[first + 1].clone().into(),
+        gasaccount: arguments.plain[first + 2].clone().into(),
+    };
     Ok(Comparison {
-        one: arguments.plain[0].clone().into(),
-        two: arguments.plain[1].clone().into(),
+        one: programs(0),
+        two: programs(3),
         seed: arguments.number("seed", 1)?,
         from: arguments.number("from", 0)?,
         count: arguments.number("count", 10_000)?,
