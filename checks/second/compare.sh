@@ -1,6 +1,7 @@
 #!/usr/bin/env bash
-# Builds the proved programs and the second ones and compares what they print: `prices`, and `lines` on generated
-# journals, each output and exit status to the byte.
+# Builds the proved programs and the second ones and compares what they print: `prices`, and on generated journals
+# `lines`, `statements` of all months, and one call of `gasaccount` on each. Each output and exit status is compared to
+# the byte, and of `gasaccount` standard error too.
 #
 #     checks/second/compare.sh [COUNT [SEED]]
 #
@@ -25,5 +26,8 @@ if ! diff "$work/ours" "$work/second"; then
     exit 1
 fi
 echo "prices: the same"
-checks/second/target/release/compare crates/lines/out/lines checks/second/target/release/lines \
+second=checks/second/target/release
+"$second/compare" \
+    crates/lines/out/lines crates/statements/out/statements crates/gasaccount/out/gasaccount \
+    "$second/lines" "$second/statements" "$second/gasaccount" \
     --count "$count" --seed "$seed" --save checks/second/difference
