@@ -6,8 +6,9 @@ use crate::crew::work_through;
 use crate::journal::{journal, kind_of, Kind};
 use crate::records::places;
 use crate::run::{find, Call, Desk, End};
+use crate::selection::{Features, Selection, Shows};
 use crate::telling::telling;
-use std::collections::{BTreeMap, BTreeSet};
+use std::collections::BTreeSet;
 use std::path::Path;
 
 /// How many journals are chosen from.
@@ -22,12 +23,9 @@ pub struct Chosen {
     pub output: Vec<u8>,
 }
 
-/// What a candidate shows, by the numbers of the features.
 struct Candidate {
-    number: u64,
     kind: Kind,
-    size: usize,
-    features: Vec<usize>,
+    shows: Shows,
 }
 
 /// Plays the candidates of the seed into the program, and answers those that
@@ -40,7 +38,7 @@ pub fn choose(program: &Path, seed: u64, jobs: usize) -> Result<Vec<Chosen>, Str
         CANDIDATES,
         |desk, number| {
             let journal = journal(seed, number);
-            let (answer, _) = play(desk, program, seed, number, &journal)?;
+            let (answer, _) = play(desk, program, &named(seed, number), &journal)?;
             Ok((
                 journal.len(),
                 features(&journal, kind_of(seed, number), &answer),
@@ -53,37 +51,32 @@ pub fn choose(program: &Path, seed: u64, jobs: usize) -> Result<Vec<Chosen>, Str
             );
         },
     )?;
-    let mut known: BTreeMap<Feature, usize> = BTreeMap::new();
-    let mut worth = Vec::new();
+    let mut features = Features::new();
     let mut candidates = Vec::new();
-    for (number, (size, features)) in (0..).zip(shown) {
-        let features = features
-            .into_iter()
-            .map(|feature| {
-                let value = feature.worth();
-                *known.entry(feature).or_insert_with(|| {
-                    worth.push(value);
-                    worth.len() - 1
-                })
-            })
-            .collect();
+    for (number, (size, shown)) in (0..).zip(shown) {
+        let shown = shown.into_iter().map(|feature| {
+            let worth = feature.worth();
+            features.number(feature, worth)
+        });
         candidates.push(Candidate {
-            number,
             kind: kind_of(seed, number),
-            size,
-            features,
+            shows: Shows {
+                number,
+                size,
+                features: shown.collect(),
+            },
         });
     }
-    let numbers = select(&candidates, worth);
-    let shown = covered(&candidates, &numbers);
+    let selection = select(&candidates, features.worth());
+    let (shown, known) = (selection.shown(), features.known());
     eprintln!("{} of {} features are shown", shown.len(), known.len());
-    for (feature, at) in &known {
+    for (feature, at) in known {
         if !shown.contains(at) && matches!(feature, Feature::Plain(_)) {
             eprintln!("not shown: {feature:?}");
         }
     }
     // They are few: one hand is enough, and its order is theirs.
-    let numbers: Vec<u64> = numbers.into_iter().collect();
+    let numbers: Vec<u64> = selection.into_numbers().into_iter().collect();
     work_through(
         1,
         0,
@@ -91,102 +84,58 @@ pub fn choose(program: &Path, seed: u64, jobs: usize) -> Result<Vec<Chosen>, Str
         |desk, turn| {
             let number = numbers[turn as usize];
             let journal = journal(seed, number);
-            let (_, output) = play(desk, program, seed, number, &journal)?;
+            let (_, output) = play(desk, program, &named(seed, number), &journal)?;
             Ok(Chosen { journal, output })
         },
         |_, _| {},
     )
 }
 
-fn play(
+fn named(seed: u64, number: u64) -> String {
+    format!("journal {number} of seed {seed}")
+}
+
+/// What `lines` prints of a journal. The name is told where it is no answer.
+pub(crate) fn play(
     desk: &Desk,
     program: &Path,
-    seed: u64,
-    number: u64,
+    name: &str,
     journal: &[u8],
 ) -> Result<(Answer, Vec<u8>), String> {
-    let named = |reason: String| format!("journal {number} of seed {seed}: {reason}");
-    let name = "journal";
-    desk.lay(name, journal)
-        .map_err(|error| named(error.to_string()))?;
+    let laid = "journal";
+    desk.lay(laid, journal)
+        .map_err(|error| format!("{name}: {error}"))?;
     let run = desk.run(Call {
         program,
         arguments: &[],
-        input: Some(name),
+        input: Some(laid),
     })?;
     if run.end != End::Status(0) {
-        return Err(named(format!("{} {}", run.end, run.complaint())));
+        return Err(format!("{name}: {} {}", run.end, run.complaint()));
     }
     let answer =
-        Answer::read(&run.output).map_err(|reason| named(format!("the output {reason}")))?;
+        Answer::read(&run.output).map_err(|reason| format!("{name}: the output {reason}"))?;
     Ok((answer, run.output))
 }
 
-fn covered(candidates: &[Candidate], numbers: &BTreeSet<u64>) -> BTreeSet<usize> {
-    candidates
-        .iter()
-        .filter(|candidate| numbers.contains(&candidate.number))
-        .flat_map(|candidate| candidate.features.iter().copied())
-        .collect()
-}
-
-/// The candidates that were taken so far.
-struct Selection {
-    numbers: BTreeSet<u64>,
-    bytes: usize,
-    /// What each feature still counts for.
-    worth: Vec<f64>,
-}
-
-impl Selection {
-    fn take(&mut self, candidate: &Candidate) {
-        self.numbers.insert(candidate.number);
-        self.bytes += candidate.size;
-        for &feature in &candidate.features {
-            self.worth[feature] *= 0.3;
-        }
-    }
-
-    fn gain(&self, candidate: &Candidate) -> f64 {
-        let shown: f64 = candidate.features.iter().map(|&at| self.worth[at]).sum();
-        // Even the smallest takes its place among those chosen.
-        shown / (candidate.size as f64 + 600.0)
-    }
-}
-
-/// Takes again and again the candidate that shows most for its size. What was
-/// shown before counts for less each time.
-fn select(candidates: &[Candidate], worth: Vec<f64>) -> BTreeSet<u64> {
-    let mut selection = Selection {
-        numbers: BTreeSet::new(),
-        bytes: 0,
-        worth,
-    };
+/// Takes those that show most for their size, behind a few that are taken
+/// anyway.
+fn select(candidates: &[Candidate], worth: Vec<f64>) -> Selection {
+    let mut selection = Selection::new(worth);
     // The longest that are played, those of just one byte less, and what is
     // too long by one byte: each once, whatever else they show.
     for size in [65_535, 65_536, 65_537] {
-        if let Some(candidate) = candidates.iter().find(|candidate| candidate.size == size) {
+        let mut candidates = candidates.iter().map(|candidate| &candidate.shows);
+        if let Some(candidate) = candidates.find(|candidate| candidate.size == size) {
             selection.take(candidate);
         }
     }
-    let mut left: Vec<&Candidate> = candidates
+    let left = candidates
         .iter()
         .filter(|candidate| !matches!(candidate.kind, Kind::Full | Kind::TooLong))
-        .collect();
-    while selection.numbers.len() < CHOSEN {
-        let room = BYTES.saturating_sub(selection.bytes);
-        let best = left
-            .iter()
-            .enumerate()
-            .filter(|(_, candidate)| candidate.size <= room)
-            .map(|(at, candidate)| (selection.gain(candidate), at))
-            .reduce(|best, next| if next.0 > best.0 { next } else { best });
-        match best {
-            Some((_, at)) => selection.take(left.remove(at)),
-            None => break,
-        }
-    }
-    selection.numbers
+        .map(|candidate| &candidate.shows);
+    selection.fill(left.collect(), CHOSEN, BYTES);
+    selection
 }
 
 /// What a journal and its answer show, by itself or with the journal's kind.
@@ -292,10 +241,12 @@ mod tests {
 
     fn candidate(number: u64, size: usize, features: &[usize]) -> Candidate {
         Candidate {
-            number,
             kind: Kind::Small,
-            size,
-            features: features.to_vec(),
+            shows: Shows {
+                number,
+                size,
+                features: features.to_vec(),
+            },
         }
     }
 
@@ -309,7 +260,7 @@ mod tests {
             candidate(4, 300, &[1, 2]),
         ];
         candidates.extend((5..300).map(|number| candidate(number, 1_000, &[0])));
-        let numbers = select(&candidates, vec![1.0; 3]);
+        let numbers = select(&candidates, vec![1.0; 3]).into_numbers();
         assert_eq!(numbers.len(), CHOSEN);
         for (number, chosen) in [(0, false), (1, true), (2, false), (3, true), (4, true)] {
             assert_eq!(numbers.contains(&number), chosen, "{number}");

@@ -13,6 +13,8 @@ mod makers;
 pub mod random;
 pub mod records;
 pub mod run;
+pub mod sample;
+pub mod selection;
 pub mod sheet;
 pub mod telling;
 
