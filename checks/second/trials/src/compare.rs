@@ -287,7 +287,7 @@ impl Comparison {
                 let trials = self.try_batch(desk, batch, &makers, &lowest)?;
                 for trial in &trials {
                     match trial.verdict {
-                        Kept::Agreed { .. } => {}
+                        Kept::Agreed(_) => {}
                         Kept::Differed => _ = differ.fetch_add(1, Ordering::Relaxed),
                         Kept::Trouble(_) => _ = trouble.fetch_add(1, Ordering::Relaxed),
                     }
