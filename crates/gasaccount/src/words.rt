@@ -1,0 +1,35 @@
+//! The words of the command line.
+use clap::{Arg, ArgAction, Command};
+use std::alloc::{AllocError, Global};
+
+/// Asks for a month's statement.
+pub const STATEMENT: &str = "statement";
+
+/// The month of a statement.
+pub const MONTH: &str = "MONTH";
+
+/// Whether a statement's lines come first.
+pub const LINES: &str = "lines";
+
+fn statement<'a>(alloc: Global) -> Result<Command<'a>, AllocError> {
+    let month = Arg::new(alloc, MONTH)
+        .required(true)
+        .action(ArgAction::Set)
+        .help("0 for November to 11 for October, or 12 for the year as a whole");
+    let lines = Arg::new(alloc, LINES)
+        .long(LINES)
+        .action(ArgAction::SetTrue)
+        .help("Print the month's lines first");
+    Command::new(alloc, STATEMENT)
+        .about("Prints a month's statement: for each item its sum in cents, and the total")
+        .arg(month)?
+        .arg(lines)
+}
+
+/// All words that the program takes (`docs/STATEMENTS.md`).
+pub fn gasaccount<'a>(alloc: Global) -> Result<Command<'a>, AllocError> {
+    Command::new(alloc, "gasaccount")
+        .about("Plays a journal from standard input into a gas account")
+        .subcommand_required(true)
+        .subcommand(statement(alloc)?)
+}
