@@ -1,5 +1,5 @@
 //! Tests of an account: refusals in their order, limits, prices past theirs, room for lines, worked
-//! figures, questions, records as calls, and whole journals.
+//! figures, questions, statements, records as calls, and whole journals.
 #![tactic(auto)]
 
 #[cfg(test)]
@@ -24,3 +24,5 @@ mod questions;
 mod refusals;
 #[cfg(test)]
 mod room;
+#[cfg(test)]
+mod statements;

@@ -31,9 +31,9 @@ impl fmt::Display for WriteFault {
 impl Error for WriteFault {}
 
 /// Puts bytes at the start of a buffer and answers how many they are; what stands behind them
-/// stays. Refused with 10 where the buffer is too short, which then stays whole
-/// (`docs/ACCOUNT.md`).
-pub fn put(buffer: &mut [u8], bytes: &[u8]) -> Result<usize, WriteFault>
+/// stays. Refused with 10 where the buffer is too short, which then stays whole (`docs/JOURNAL.md`
+/// for a record, `docs/STATEMENTS.md` for a statement).
+pub fn put_at_start(buffer: &mut [u8], bytes: &[u8]) -> Result<usize, WriteFault>
     ensures answers { result ≡ put_answer bytes.now buffer.old }
     ensures leaves { buffer.new ≡ buffer_with bytes.now buffer.old }
 {

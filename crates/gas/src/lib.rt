@@ -19,7 +19,7 @@ mod units;
 mod worked;
 
 pub use amount::{Amount, MOST_AMOUNT};
-pub use buffers::{WriteFault, put};
+pub use buffers::{WriteFault, put_at_start};
 pub use calendar::{LAST_MONTH, Month};
 pub use day::{DayKind, DayNumbers, DayRecord, MOST_A_DAY};
 pub use facts::{Facts, MOST_DAYS, MonthNumbers, WholeMonth};

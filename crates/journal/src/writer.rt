@@ -8,7 +8,7 @@ ghost use Rattle.journal.specs.RoundTrips.{ReadsBack};
 ghost use Rattle.journal.specs.Writing.{write_answer, buffer_after};
 
 use crate::kinds::{Day, Record};
-use gas::{ClosingNumbers, WriteFault, put};
+use gas::{ClosingNumbers, WriteFault, put_at_start};
 
 // The bytes of a record of the kind that carries a day.
 fn day_bytes(kind: u8, day: Day) -> [u8; 29]
@@ -100,14 +100,14 @@ pub fn write(record: &Record, buffer: &mut [u8]) -> Result<usize, WriteFault>
             increase,
             first,
             last,
-        } => put(buffer, &open_bytes(leap, increase, first, last)),
-        Record::Post { day } => put(buffer, &day_bytes(2, day)),
-        Record::Correct { day } => put(buffer, &day_bytes(3, day)),
-        Record::Close { month, numbers } => put(buffer, &close_bytes(month, numbers)),
-        Record::Pay { amount } => put(buffer, &pay_bytes(amount)),
+        } => put_at_start(buffer, &open_bytes(leap, increase, first, last)),
+        Record::Post { day } => put_at_start(buffer, &day_bytes(2, day)),
+        Record::Correct { day } => put_at_start(buffer, &day_bytes(3, day)),
+        Record::Close { month, numbers } => put_at_start(buffer, &close_bytes(month, numbers)),
+        Record::Pay { amount } => put_at_start(buffer, &pay_bytes(amount)),
         Record::Settle {
             final_increase,
             interest,
-        } => put(buffer, &settle_bytes(final_increase, interest)),
+        } => put_at_start(buffer, &settle_bytes(final_increase, interest)),
     }
 }

@@ -4,10 +4,10 @@ ghost use Rattle.gas.specs.Worked.{IsAsExpected};
 ghost use Rattle.ledger.specs.Worked.{limits};
 
 /// How many limits of an account's lines, payments and statements are those that were laid down
-/// (`docs/ACCOUNT.md`).
+/// (`docs/ACCOUNT.md`, `docs/STATEMENTS.md`).
 pub fn worked_limits() -> u8
     ensures count { result ≡ length limits }
     ensures expected { IsAsExpected limits }
 {
-    5
+    6
 }

@@ -13,6 +13,8 @@ mod rows;
 mod schedule;
 mod statement;
 mod tables;
+#[cfg(test)]
+mod tests;
 mod year;
 
 pub use listing::journal_listing;

@@ -5,7 +5,7 @@ ghost use Rattle.ledger.specs.declared.lines.TheConstants.{MOST_LINES};
 ghost use Rattle.ledger.specs.Prices.{open_therms};
 ghost use Rattle.ledger.specs.Questions.{IsPeakAnswer, numbered_line, sum_of_all};
 ghost use Rattle.ledger.specs.Runs.{RunsAddUp};
-ghost use Rattle.ledger.specs.Statements.{StepsThrough, begun_statement, reading_of};
+ghost use Rattle.ledger.specs.Statements.{StepsThrough, begun_statement, view_of};
 ghost use Rattle.ledger.specs.Year.{IsComplete};
 ghost use Rattle.account.specs.Histories.{AddsUpByItsHistories};
 
@@ -38,9 +38,10 @@ impl<S: Schedule> Account<S> {
     /// step through and to print. Refused with 3 is a month above 12; nothing else is, before the
     /// opening too (`docs/STATEMENTS.md`).
     ///
-    /// The law of statements stands here: stepped through to its end, one gives the whole month.
+    /// The law of statements stands here: stepped through to its end, one gives each line of the
+    /// month once, in order.
     pub fn statement(&self, month: u8) -> Result<Statement<'_>, AccountFault>
-        ensures is { answer_by reading_of result ≡
+        ensures is { answer_by view_of result ≡
             begun_statement self.now.state.lines month }
         ensures steps { IfOk result (StepsThrough self.now.state.lines month) }
     {

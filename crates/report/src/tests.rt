@@ -1,0 +1,54 @@
+//! What is answered to the words of a month.
+use crate::{asked_month, statement_answer};
+use std::test::Fail;
+
+// Which words name a month, and the row that refuses the others.
+#[test]
+fn of_words_for_a_month(rt: HostRuntime) -> Result<(), Fail> {
+    let alloc = rt.alloc();
+    for (word, month) in [("0", 0), ("12", 12), ("007", 7), ("+3", 3)] {
+        assert_eq!(rt; asked_month(word), Some(month));
+        let journal = Some(Vec::new(alloc));
+        let answer = statement_answer(alloc, word, true, journal)?;
+        assert_eq!(rt; answer.output.as_str(), "total 0\n");
+        assert_eq!(rt; answer.errors.as_str(), "");
+        assert!(rt; !answer.is_refused);
+    }
+    for word in [
+        "13",
+        "255",
+        "256",
+        "99999999999999999999",
+        "x",
+        "",
+        "1.5",
+        "-1",
+        "1 ",
+    ] {
+        assert_eq!(rt; asked_month(word), None);
+        let answer = statement_answer(alloc, word, false, Some(Vec::new(alloc)))?;
+        assert_eq!(rt; answer.output.as_str(), "");
+        let told = "refused 3: a statement is of a month from 0 to 12, not of";
+        let row = format!(in alloc; "{told} {word}\n")?;
+        assert_eq!(rt; answer.errors.as_str(), row.as_str());
+        assert!(rt; answer.is_refused);
+    }
+    Ok(())
+}
+
+// An input that is too long, and records that are refused.
+#[test]
+fn of_journals(rt: HostRuntime) -> Result<(), Fail> {
+    let alloc = rt.alloc();
+    let answer = statement_answer(alloc, "12", false, None)?;
+    assert_eq!(rt; answer.output.as_str(), "");
+    assert_eq!(rt; answer.errors.as_str(), "too long\n");
+    assert!(rt; answer.is_refused);
+    let pay = [5, 100, 0, 0, 0, 0, 0, 0, 0, 7];
+    let journal = Some(Vec::from_slice(alloc, &pay)?);
+    let answer = statement_answer(alloc, "12", false, journal)?;
+    assert_eq!(rt; answer.output.as_str(), "total 0\n");
+    assert_eq!(rt; answer.errors.as_str(), "refused 1 20\nrefused 2 1\n");
+    assert!(rt; !answer.is_refused);
+    Ok(())
+}
