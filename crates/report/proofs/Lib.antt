@@ -1,4 +1,4 @@
-pub mod Months
 pub mod Numbered
+pub mod Titled
 pub mod Turns
 pub mod Whole

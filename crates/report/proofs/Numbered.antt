@@ -7,6 +7,7 @@ use Rattle.std.proofs.lemmas.Option.{get_or_from_slice_get, slice_get_within}
 use Rattle.std.specs.List.{slice_get}
 use Rattle.ledger.specs.declared.lines.Line.{Line}
 use Rattle.ledger.specs.Questions.{numbered_line}
+use Rattle.ledger.specs.Statements.{numbered}
 use Rattle.ledger.proofs.Stepping.{was_found}
 use Rattle.report.specs.Rows.{line_text, lines_text}
 
@@ -20,10 +21,12 @@ rest_from lines i line e =
 
 pub one_more :
     (lines : List Line) (start text more : List ℕ) (i : ℕ) (line : Line) →
-    text ++ lines_text (i + 1) (drop i lines) ≡ start → numbered_line lines (i + 1) ≡ Ok line →
-    more ≡ text ++ (line_text (i + 1) line ++ codes "\n") →
-    more ++ lines_text (i + 1 + 1) (drop (i + 1) lines) ≡ start
+    text ++ lines_text (numbered (i + 1) (drop i lines)) ≡ start →
+    numbered_line lines (i + 1) ≡ Ok line →
+    more ≡ text ++ (line_text (record { number = i + 1; line = line }) ++ codes "\n") →
+    more ++ lines_text (numbered (i + 1 + 1) (drop (i + 1) lines)) ≡ start
 one_more lines start text more i line sofar is m =
     let here : slice_get lines i ≡ Some line = was_found _ line (rw add-one at is) in
-    rw m (append_assoc text _ _ ∙ ap (λ t. text ++ t) (append_assoc (line_text (i + 1) line) _ _) ∙
-    ap (λ ls. text ++ lines_text (i + 1) ls) (sym (rest_from lines i line here)) ∙ sofar)
+    let row = line_text (record { number = i + 1; line = line }) in
+    rw m (append_assoc text _ _ ∙ ap (λ t. text ++ t) (append_assoc row _ _) ∙
+    ap (λ ls. text ++ lines_text (numbered (i + 1) ls)) (sym (rest_from lines i line here)) ∙ sofar)

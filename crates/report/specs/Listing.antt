@@ -11,6 +11,7 @@ use Rattle.journal.specs.declared.kinds.Record.TheVariants.{Open, Post, Correct,
 use Rattle.journal.specs.Faults.{read_number}
 use Rattle.journal.specs.Format.{fields_of}
 use Rattle.journal.specs.Reading.{Gives}
+use Rattle.report.specs.Outputs.{UnlessTooLong}
 
 -- the kind in a word
 abbrev pub word : Record → List ℕ
@@ -72,8 +73,6 @@ Lists bs text =
     (ps : List Located) × (end : Option ReadFault) × Gives bs 0 ps end ×
     (text ≡ listing_text 1 ps end)
 
--- what the program writes by what was taken of its input: the one row `too long` where it has more
--- than 65,536 bytes, which are not taken, else the listing
+-- what the program writes by what was taken of its input
 abbrev pub Writes : Option (List ℕ) → List ℕ → Type 0
-Writes None text = text ≡ codes "too long\n"
-Writes (Some bs) text = Lists bs text
+Writes journal text = UnlessTooLong Lists journal text

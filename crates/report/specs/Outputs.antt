@@ -1,4 +1,4 @@
--- What the program writes of its input.
+-- What is printed of an input, and of a journal that is played on the fixed tariff.
 use Rattle.std.specs.Prelude.{◌≡◌, ℕ, List, Some, None, codes, Option}
 use Rattle.account.specs.declared.faults.Refusal.{Refusal}
 use Rattle.account.specs.Playing.{Played}
@@ -17,7 +17,13 @@ PrintsPlayed bytes text =
     (b : State) × (refusals : List Refusal) × PlaysInto bytes b refusals ×
     (text ≡ played_text refusals b.lines)
 
--- by the input, or none where it has more than 65,536 bytes: then the one row is `too long`
+-- by what was taken of an input: where it has more than 65,536 bytes none is, and the one row is
+-- `too long`; else what is printed of the bytes
+abbrev pub UnlessTooLong :
+    (List ℕ → List ℕ → Type 0) → Option (List ℕ) → List ℕ → Type 0
+UnlessTooLong Printed None text = text ≡ codes "too long\n"
+UnlessTooLong Printed (Some bytes) text = Printed bytes text
+
+-- what the program `lines` writes
 abbrev pub Prints : Option (List ℕ) → List ℕ → Type 0
-Prints None text = text ≡ codes "too long\n"
-Prints (Some bytes) text = PrintsPlayed bytes text
+Prints journal text = UnlessTooLong PrintsPlayed journal text

@@ -1,4 +1,4 @@
--- What is printed of statements: of one month, as it is asked for by a word, and of a whole year.
+-- What is printed of statements: of one month, as a word asks for it, and of all months.
 use Rattle.std.specs.Prelude.{◌≡◌, ℕ, ◌+◌, ◌≤◌, Bool, true, false, if◌then◌else◌, List, [], ◌++◌, Some}
 use Rattle.std.specs.Prelude.{None, Option, SomeIff, codes, decimal, flat_map, string_bytes}
 use Rattle.std.specs.List.{range_with_len}
@@ -7,15 +7,13 @@ use Rattle.gas.specs.declared.faults.InputFault.TheVariants.{Month}
 use Rattle.gas.specs.Faults.{input_number}
 use Rattle.ledger.specs.declared.lines.Line.{Line}
 use Rattle.ledger.specs.declared.lines.TheConstants.{WHOLE_YEAR}
-use Rattle.ledger.specs.declared.statement.NumberedLine.{NumberedLine}
 use Rattle.ledger.specs.Calls.{State}
 use Rattle.ledger.specs.Printed.{statement_text}
 use Rattle.ledger.specs.Statements.{month_lines}
 use Rattle.account.specs.declared.faults.Refusal.{Refusal}
 use Rattle.report.specs.declared.statement.Answer.{Answer}
-use Rattle.report.specs.Named.{name_row}
-use Rattle.report.specs.Outputs.{PlaysInto}
-use Rattle.report.specs.Rows.{line_text, refusals_text}
+use Rattle.report.specs.Outputs.{PlaysInto, UnlessTooLong}
+use Rattle.report.specs.Rows.{lines_text, refusals_text}
 
 -- the number that a word of decimal digits means; a plus may stand before them
 abbrev pub number_of : List ℕ → ℕ
@@ -31,14 +29,10 @@ month_refusal word =
     codes "refused " ++ (decimal (input_number Month) ++
     (codes ": a statement is of a month from 0 to 12, not of " ++ (word ++ codes "\n")))
 
--- a row for each of some numbered lines
-abbrev pub numbered_text : List NumberedLine → List ℕ
-numbered_text ns = flat_map (λ n. line_text n.number n.line ++ codes "\n") ns
-
 -- the printed form of a month, before which its lines may stand
 abbrev pub month_text : ℕ → Bool → List Line → List ℕ
 month_text month with_lines lines =
-    (if with_lines then numbered_text (month_lines month 1 lines) else []) ++
+    (if with_lines then lines_text (month_lines month 1 lines) else []) ++
     statement_text month lines
 
 -- a command that is refused: nothing on standard output, and the reason on standard error
@@ -55,8 +49,8 @@ AnswersPlayed month with_lines bytes answer =
     (string_bytes answer.errors ≡ refusals_text refusals) ×
     (answer.is_refused ≡ false)
 
--- by the month, or none where the word names no month; and by the journal, or none where the input
--- has more than 65,536 bytes
+-- by the month, or none where the word names none, and then the journal is not asked for; and by
+-- the journal, or none where the input has more than 65,536 bytes
 abbrev pub AnswersOf : Option ℕ → List ℕ → Bool → Option (List ℕ) → Answer → Type 0
 AnswersOf None word with_lines journal answer = IsRefused (month_refusal word) answer
 AnswersOf (Some month) word with_lines None answer = IsRefused (codes "too long\n") answer
@@ -74,18 +68,16 @@ abbrev pub titled_text : List Line → ℕ → List ℕ
 titled_text lines month =
     codes "month " ++ (decimal month ++ (codes "\n" ++ statement_text month lines))
 
--- the thirteen months
-unfoldable pub year_text : List Line → List ℕ
-year_text lines = flat_map (titled_text lines) (range_with_len 0 (1 + WHOLE_YEAR))
+-- the months that a line can have, each with its row
+unfoldable pub months_text : List Line → List ℕ
+months_text lines = flat_map (titled_text lines) (range_with_len 0 (WHOLE_YEAR + 1))
 
--- what was refused of a journal, and the statements of the whole year; or that it is too long
-abbrev pub PrintsYear : Option (List ℕ) → List ℕ → Type 0
-PrintsYear None text = text ≡ codes "too long\n"
-PrintsYear (Some bytes) text =
+-- what was refused of a journal, and all months of the account
+abbrev pub PrintsPlayedMonths : List ℕ → List ℕ → Type 0
+PrintsPlayedMonths bytes text =
     (b : State) × (refusals : List Refusal) × PlaysInto bytes b refusals ×
-    (text ≡ refusals_text refusals ++ year_text b.lines)
+    (text ≡ refusals_text refusals ++ months_text b.lines)
 
--- under a row with the name of the journal's file
-abbrev pub PrintsNamedYear : List ℕ → Option (List ℕ) → List ℕ → Type 0
-PrintsNamedYear name journal text =
-    (printed : List ℕ) × PrintsYear journal printed × (text ≡ name_row name ++ printed)
+-- what the program `statements` writes of one journal
+abbrev pub PrintsMonths : Option (List ℕ) → List ℕ → Type 0
+PrintsMonths journal text = UnlessTooLong PrintsPlayedMonths journal text

@@ -1,6 +1,7 @@
 //! All that the program prints.
 ghost use Rattle.std.specs.Prelude.{◌≡◌, ◌++◌, OnOk, IfOk, codes, string_bytes, vec_items};
 ghost use Rattle.std.specs.Option.{option_map};
+ghost use Rattle.ledger.specs.Statements.{numbered};
 ghost use Rattle.report.specs.Outputs.{Prints, PrintsPlayed};
 ghost use Rattle.report.specs.Rows.{account_text, lines_text, refusals_text};
 
@@ -26,7 +27,7 @@ pub fn write_refusals(text: &mut String, refusals: &[Refusal]) -> Result<(), fmt
 // A row for each line of an account, in order. Each number up to the count has its line.
 fn write_lines<S: Schedule>(text: &mut String, account: &Account<S>) -> Result<(), fmt::Error>
     ensures { OnOk result (string_bytes text.new ≡
-        string_bytes text.old ++ lines_text 1 account.now.state.lines) }
+        string_bytes text.old ++ lines_text (numbered 1 account.now.state.lines)) }
 {
     for index in 0..account.line_count() {
         let number = index + 1;

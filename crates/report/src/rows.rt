@@ -11,7 +11,7 @@ use std::fmt;
 pub struct LineRow(pub NumberedLine);
 
 impl fmt::Display for LineRow {
-    ghost output = { λ r. Some (line_text r.0.number r.0.line) };
+    ghost output = { λ r. Some (line_text r.0) };
 
     fn fmt<W: fmt::Write>(&self, f: &mut fmt::Formatter<W>) -> fmt::Result {
         let NumberedLine { number, line } = self.0;

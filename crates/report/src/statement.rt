@@ -3,8 +3,9 @@ ghost use Rattle.std.specs.Prelude.{◌≡◌, ◌≤◌, ◌++◌, IfOk, OnOk, 
 ghost use Rattle.std.specs.Option.{option_map};
 ghost use Rattle.ledger.specs.declared.lines.TheConstants.{WHOLE_YEAR};
 ghost use Rattle.ledger.specs.Statements.{still_to_give};
+ghost use Rattle.report.specs.Rows.{lines_text};
 ghost use Rattle.report.specs.Statements.{AnswersPlayed, AnswersStatement, IsRefused, NamesMonth};
-ghost use Rattle.report.specs.Statements.{month_refusal, number_of, numbered_text};
+ghost use Rattle.report.specs.Statements.{month_refusal, number_of};
 
 use crate::playing::play;
 use crate::printing::{too_long, write_refusals};
@@ -14,12 +15,14 @@ use ledger::{Statement, WHOLE_YEAR};
 use std::alloc::Global;
 use std::fmt;
 
-/// What a program writes on standard output and on standard error, and whether it is refused, so
-/// that it ends with status 1 (`docs/STATEMENTS.md`).
+/// What a program answers to its words and its input (`docs/STATEMENTS.md`).
 #[derive(Debug, Drop)]
 pub struct Answer {
+    /// What it writes on standard output.
     pub output: String,
+    /// What it writes on standard error.
     pub errors: String,
+    /// Whether it ends with status 1, and not with 0.
     pub is_refused: bool,
 }
 
@@ -61,10 +64,10 @@ fn month_refusal(alloc: Global, word: &str) -> Result<String, fmt::Error>
 // A row for each line that a statement still has to give.
 fn write_month(text: &mut String, statement: Statement) -> Result<(), fmt::Error>
     ensures { OnOk result (string_bytes text.new ≡
-        string_bytes text.old ++ numbered_text (still_to_give statement.entry)) }
+        string_bytes text.old ++ lines_text (still_to_give statement.entry)) }
 {
-    let mut rest = statement;
-    while let Some(line) = rest.next() {
+    let mut steps = statement;
+    while let Some(line) = steps.next() {
         writeln!(text, "{}", LineRow(line))?;
     }
     Ok(())
@@ -97,7 +100,8 @@ fn month_answer(
 }
 
 /// All that `gasaccount statement` answers for the word of a month, with the month's lines or
-/// without, and for a journal, or for an input that was too long to be one (`docs/STATEMENTS.md`).
+/// without, and for a journal, or none where the input was too long to be one. A word that names no
+/// month is refused whatever the input, so that it need not be read (`docs/STATEMENTS.md`).
 pub fn statement_answer(
     alloc: Global,
     word: &str,

@@ -4,7 +4,7 @@
 
 use anyhow::Context;
 use journal::load;
-use report::year_output;
+use report::months_output;
 use std::{env, fs};
 
 fn main(rt: HostRuntime) -> anyhow::Result<()> {
@@ -12,7 +12,7 @@ fn main(rt: HostRuntime) -> anyhow::Result<()> {
     for name in env::args(&rt)?.skip(1) {
         let file = fs::open(&rt, name.as_str()).context(name.as_str())?;
         let journal = load(alloc, file).context(name.as_str())?;
-        rt.print(year_output(alloc, &name, journal)?)?;
+        rt.print(months_output(alloc, &name, journal)?)?;
     }
     Ok(())
 }

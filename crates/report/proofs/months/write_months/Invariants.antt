@@ -1,7 +1,7 @@
 use Rattle.std.proofs.Common.{◌≡◌, ◌++◌, flat_map, string_bytes}
 use Rattle.std.specs.List.{range_with_len}
 use Rattle.report.specs.Statements.{titled_text}
-use Rattle.report.proofs.year.write_year.Given as goal
+use Rattle.report.proofs.months.write_months.Given as goal
 
 abbrev pub invariant-loop-month : goal.invariant-loop-month
 invariant-loop-month g l =

@@ -1,4 +1,4 @@
--- The months of a year, one after another.
+-- Months under their rows, one after another.
 use Rattle.std.proofs.Common.{◌≡◌, ℕ, suc, ◌+◌, List, ◌++◌, append_assoc, arith, flat_map}
 use Rattle.std.specs.List.{range_with_len}
 use Rattle.ledger.proofs.Printing.{rows}

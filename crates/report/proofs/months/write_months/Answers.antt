@@ -1,7 +1,7 @@
 use Rattle.std.proofs.Common.{◌≡◌, arith, refl}
-use Rattle.report.specs.Statements.{titled_text, year_text}
-use Rattle.report.proofs.Months.{month_next}
-use Rattle.report.proofs.year.write_year.Goals as goal
+use Rattle.report.specs.Statements.{titled_text, months_text}
+use Rattle.report.proofs.Titled.{month_next}
+use Rattle.report.proofs.months.write_months.Goals as goal
 
 pub loop-month-preserved : goal.loop-month-preserved
 loop-month-preserved g c =
@@ -10,7 +10,7 @@ loop-month-preserved g c =
     c.in_ok-write_titled.ensures
 
 pub returns : goal.returns
-unfolding year_text
+unfolding months_text
 returns g c =
     let l = c.loop-month in
     let last : l.month ≡ 13 = omega (arith, l.auto.month-end, c.loop-month-test.false) in
