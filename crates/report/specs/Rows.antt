@@ -43,7 +43,8 @@ lines_text (n ∷ ns) = line_text n ++ (codes "\n" ++ lines_text ns)
 -- the header, the lines, and last their sum
 abbrev pub account_text : List Line → List ℕ
 account_text lines =
-    header ++ (codes "\n" ++ (lines_text (numbered 1 lines) ++ (sum_text (sum_of_all lines) ++ codes "\n")))
+    header ++ (codes "\n" ++
+    (lines_text (numbered 1 lines) ++ (sum_text (sum_of_all lines) ++ codes "\n")))
 
 -- what was refused, and then the account
 abbrev pub played_text : List Refusal → List Line → List ℕ
