@@ -1,5 +1,5 @@
-//! The command line of the gas account: plays a journal from standard input and answers what its
-//! words ask for.
+//! The command line of the gas account: plays a journal from standard input, and answers what the
+//! words of the command line ask for.
 #![tactic(auto)]
 
 mod words;
@@ -12,7 +12,7 @@ use std::alloc::Global;
 use std::env;
 use std::process::ExitCode;
 
-// A word that names no month is refused without a journal.
+// A month's statement. A word that names no month is refused without a journal.
 fn statement(rt: &HostRuntime, matches: &ArgMatches) -> anyhow::Result<Answer> {
     let alloc = rt.alloc();
     let word = matches.get_str(words::MONTH).unwrap_or("");
@@ -36,6 +36,7 @@ fn main(rt: HostRuntime) -> anyhow::Result<ExitCode> {
     };
     let answer = match matches.subcommand() {
         Some((words::STATEMENT, asked)) => statement(&rt, asked)?,
+        // no other word is let through
         _ => return Ok(ExitCode::FAILURE),
     };
     rt.print(answer.output)?;

@@ -1,16 +1,17 @@
-//! The words of the command line.
+//! The words of the command line (`docs/STATEMENTS.md`).
 use clap::{Arg, ArgAction, Command};
 use std::alloc::{AllocError, Global};
 
-/// Asks for a month's statement.
+/// The word that asks for a month's statement.
 pub const STATEMENT: &str = "statement";
 
-/// The month of a statement.
+/// The argument with the month of a statement.
 pub const MONTH: &str = "MONTH";
 
-/// Whether a statement's lines come first.
+/// The option by which a statement's lines come first.
 pub const LINES: &str = "lines";
 
+// A month's statement.
 fn statement<'a>(alloc: Global) -> Result<Command<'a>, AllocError> {
     let month = Arg::new(alloc, MONTH)
         .required(true)

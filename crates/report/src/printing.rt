@@ -1,4 +1,4 @@
-//! All that the program prints.
+//! What `lines` prints of a journal.
 ghost use Rattle.std.specs.Prelude.{◌≡◌, ◌++◌, OnOk, IfOk, codes, string_bytes, vec_items};
 ghost use Rattle.std.specs.Option.{option_map};
 ghost use Rattle.ledger.specs.Statements.{numbered};
