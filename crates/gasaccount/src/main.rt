@@ -41,9 +41,5 @@ fn main(rt: HostRuntime) -> anyhow::Result<ExitCode> {
     };
     rt.print(answer.output)?;
     rt.eprint(answer.errors)?;
-    Ok(if answer.is_refused {
-        ExitCode::FAILURE
-    } else {
-        ExitCode::SUCCESS
-    })
+    Ok(ExitCode::from(answer.status))
 }

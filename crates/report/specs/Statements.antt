@@ -1,5 +1,5 @@
 -- What is printed of statements: of one month, as a word asks for it, and of all months.
-use Rattle.std.specs.Prelude.{◌≡◌, ℕ, ◌+◌, ◌≤◌, Bool, true, false, if◌then◌else◌, List, [], ◌++◌}
+use Rattle.std.specs.Prelude.{◌≡◌, ℕ, ◌+◌, ◌≤◌, Bool, if◌then◌else◌, List, [], ◌++◌}
 use Rattle.std.specs.Prelude.{Some}
 use Rattle.std.specs.Prelude.{None, Option, SomeIff, codes, decimal, flat_map, string_bytes}
 use Rattle.std.specs.List.{range_with_len}
@@ -36,19 +36,20 @@ month_text month with_lines lines =
     (if with_lines then lines_text (month_lines month 1 lines) else []) ++
     statement_text month lines
 
--- a command that is refused: nothing on standard output, and the reason on standard error
+-- a command that is refused: nothing on standard output, the reason on standard error, and status 1
 abbrev pub IsRefused : List ℕ → Answer → Type 0
 IsRefused reason answer =
     (string_bytes answer.output ≡ []) × (string_bytes answer.errors ≡ reason) ×
-    (answer.is_refused ≡ true)
+    (answer.status ≡ 1)
 
--- a journal that was played: the month on standard output, and on standard error what was refused
+-- a journal that was played: the month on standard output, on standard error what was refused, and
+-- status 0
 abbrev pub AnswersPlayed : ℕ → Bool → List ℕ → Answer → Type 0
 AnswersPlayed month with_lines bytes answer =
     (b : State) × (refusals : List Refusal) × PlaysInto bytes b refusals ×
     (string_bytes answer.output ≡ month_text month with_lines b.lines) ×
     (string_bytes answer.errors ≡ refusals_text refusals) ×
-    (answer.is_refused ≡ false)
+    (answer.status ≡ 0)
 
 -- by the month, or none where the word names none, and then the journal is not asked for; and by
 -- the journal, or none where the input has more than 65,536 bytes

@@ -22,8 +22,8 @@ pub struct Answer {
     pub output: String,
     /// What it writes on standard error.
     pub errors: String,
-    /// Whether it ends with status 1, and not with 0.
-    pub is_refused: bool,
+    /// The status with which it ends: 1 where it is refused, and else 0.
+    pub status: u8,
 }
 
 // A refusal, with its reason for standard error.
@@ -33,7 +33,7 @@ fn refused(alloc: Global, reason: String) -> Answer
     Answer {
         output: String::new(alloc),
         errors: reason,
-        is_refused: true,
+        status: 1,
     }
 }
 
@@ -95,7 +95,7 @@ fn month_answer(
     Ok(Answer {
         output,
         errors,
-        is_refused: false,
+        status: 0,
     })
 }
 

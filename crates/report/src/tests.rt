@@ -12,7 +12,7 @@ fn of_words_for_a_month(rt: HostRuntime) -> Result<(), Fail> {
         let answer = statement_answer(alloc, word, true, journal)?;
         assert_eq!(rt; answer.output.as_str(), "total 0\n");
         assert_eq!(rt; answer.errors.as_str(), "");
-        assert!(rt; !answer.is_refused);
+        assert_eq!(rt; answer.status, 0);
     }
     for word in [
         "13",
@@ -31,7 +31,7 @@ fn of_words_for_a_month(rt: HostRuntime) -> Result<(), Fail> {
         let told = "refused 3: a statement is of a month from 0 to 12, not of";
         let row = format!(in alloc; "{told} {word}\n")?;
         assert_eq!(rt; answer.errors.as_str(), row.as_str());
-        assert!(rt; answer.is_refused);
+        assert_eq!(rt; answer.status, 1);
     }
     Ok(())
 }
@@ -43,12 +43,12 @@ fn of_journals(rt: HostRuntime) -> Result<(), Fail> {
     let answer = statement_answer(alloc, "12", false, None)?;
     assert_eq!(rt; answer.output.as_str(), "");
     assert_eq!(rt; answer.errors.as_str(), "too long\n");
-    assert!(rt; answer.is_refused);
+    assert_eq!(rt; answer.status, 1);
     let pay = [5, 100, 0, 0, 0, 0, 0, 0, 0, 7];
     let journal = Some(Vec::from_slice(alloc, &pay)?);
     let answer = statement_answer(alloc, "12", false, journal)?;
     assert_eq!(rt; answer.output.as_str(), "total 0\n");
     assert_eq!(rt; answer.errors.as_str(), "refused 1 20\nrefused 2 1\n");
-    assert!(rt; !answer.is_refused);
+    assert_eq!(rt; answer.status, 0);
     Ok(())
 }
