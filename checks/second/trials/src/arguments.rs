@@ -1,6 +1,7 @@
 //! The arguments of the programs: plain ones, and options with a value each.
 
 use std::collections::BTreeMap;
+use std::process::ExitCode;
 use std::str::FromStr;
 
 pub struct Arguments {
@@ -55,6 +56,17 @@ impl Arguments {
             .cloned()
             .unwrap_or_else(|| usual.to_string())
     }
+}
+
+/// How a program of this name ends: well, or with the reason and its usage on
+/// standard error and status 2.
+pub fn ended(name: &str, usage: &str, run: Result<(), String>) -> ExitCode {
+    let Err(reason) = run else {
+        return ExitCode::SUCCESS;
+    };
+    eprintln!("{name}: {reason}");
+    eprintln!("usage: {name} {usage}");
+    ExitCode::from(2)
 }
 
 pub fn parse<T: FromStr>(value: &str) -> Result<T, String> {

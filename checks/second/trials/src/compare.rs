@@ -725,6 +725,14 @@ mod tests {
             }
         }
 
+        /// A script, and behind it another program with the same words.
+        fn before(&self, program: &Path, name: &str, script: &str) -> PathBuf {
+            self.script(
+                name,
+                &format!("{script}\nexec {} \"$@\"", program.display()),
+            )
+        }
+
         /// A program that takes its journal and prints the same of each.
         fn prints(&self, name: &str, text: &str) -> PathBuf {
             let text = text.replace('\n', "\\n");
@@ -787,10 +795,7 @@ mod tests {
         let folder = StandIns::new("statements");
         let empty = folder.empty();
         let with = |name: &str, script: &str| Programs {
-            statements: folder.script(
-                name,
-                &format!("{script}\nexec {} \"$@\"", empty.statements.display()),
-            ),
+            statements: folder.before(&empty.statements, name, script),
             ..empty.clone()
         };
         let other = with("other", "case \"$*\" in *33.journal*) echo;; esac");
@@ -811,10 +816,7 @@ mod tests {
         let folder = StandIns::new("gasaccount");
         let empty = folder.empty();
         let with = |name: &str, script: &str| Programs {
-            gasaccount: folder.script(
-                name,
-                &format!("{script}\nexec {} \"$@\"", empty.gasaccount.display()),
-            ),
+            gasaccount: folder.before(&empty.gasaccount, name, script),
             ..empty.clone()
         };
         let talks = with("talks", "echo hello >&2");

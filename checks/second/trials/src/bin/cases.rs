@@ -6,19 +6,12 @@ use std::fs;
 use std::io::{self, Write};
 use std::path::Path;
 use std::process::ExitCode;
-use trials::arguments::Arguments;
+use trials::arguments::{ended, Arguments};
 use trials::choose::choose;
 use trials::crew::usual_jobs;
 
 fn main() -> ExitCode {
-    match run() {
-        Ok(()) => ExitCode::SUCCESS,
-        Err(reason) => {
-            eprintln!("cases: {reason}");
-            eprintln!("usage: cases SECOND FOLDER [--seed S] [--jobs J]");
-            ExitCode::from(2)
-        }
-    }
+    ended("cases", "SECOND FOLDER [--seed S] [--jobs J]", run())
 }
 
 fn run() -> Result<(), String> {

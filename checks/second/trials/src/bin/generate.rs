@@ -3,17 +3,10 @@
 use std::env;
 use std::io::{self, Write};
 use std::process::ExitCode;
-use trials::arguments::{parse, Arguments};
+use trials::arguments::{ended, parse, Arguments};
 
 fn main() -> ExitCode {
-    match run() {
-        Ok(()) => ExitCode::SUCCESS,
-        Err(reason) => {
-            eprintln!("generate: {reason}");
-            eprintln!("usage: generate SEED NUMBER");
-            ExitCode::from(2)
-        }
-    }
+    ended("generate", "SEED NUMBER", run())
 }
 
 fn run() -> Result<(), String> {

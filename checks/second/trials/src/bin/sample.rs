@@ -4,19 +4,12 @@
 use std::env;
 use std::path::Path;
 use std::process::ExitCode;
-use trials::arguments::Arguments;
+use trials::arguments::{ended, Arguments};
 use trials::crew::usual_jobs;
 use trials::sample::sample;
 
 fn main() -> ExitCode {
-    match run() {
-        Ok(()) => ExitCode::SUCCESS,
-        Err(reason) => {
-            eprintln!("sample: {reason}");
-            eprintln!("usage: sample LINES FOLDER [--jobs J]");
-            ExitCode::from(2)
-        }
-    }
+    ended("sample", "LINES FOLDER [--jobs J]", run())
 }
 
 fn run() -> Result<(), String> {
