@@ -7,7 +7,7 @@ use Rattle.gas.specs.Tariffs.{Tariff}
 use Rattle.gas.proofs.Made.{same_mark}
 use Rattle.ledger.specs.declared.faults.AccountFault.{AccountFault}
 use Rattle.ledger.specs.declared.lines.TheConstants.{MOST_LINES}
-use Rattle.ledger.specs.Calls.{opening, opening_input, tests, year_after}
+use Rattle.ledger.specs.Calls.{opening, opening_input, known_after, tests}
 use Rattle.ledger.specs.Year.{Opening, running}
 use Rattle.book.specs.Books.{Contents, begun_book, state_of}
 use Rattle.book.proofs.Outcomes.{fits, passed}
@@ -50,6 +50,6 @@ module _ {S : Type 0} {sch : S} {at : code.Standing} {b : Contents} {a : Holding
         rw is
         (accepted
         (passed s (opening leap o) a.state (tested ∙ sym e) ∙ fits
-        (year_after (opening leap o) a.state.year) a.state.lines [] all ∙ rw
+        (known_after (opening leap o) a.state) [] all ∙ rw
         (left, by, sym same, append-nil b.lines, sym mark, same_mark marked) refl)
         (ap (λ (h : Holding S). h.schedule) same))

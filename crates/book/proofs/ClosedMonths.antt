@@ -8,20 +8,17 @@ use Rattle.gas.specs.declared.faults.InputFault.TheVariants as input
 use Rattle.gas.specs.declared.month.ClosingNumbers.{ClosingNumbers}
 use Rattle.gas.specs.Inputs.{checked_closing, checked_month, first_failure, is_lawful_closing}
 use Rattle.ledger.specs.declared.faults.AccountFault.TheVariants as fault
-use Rattle.ledger.specs.declared.lines.Line.{Line}
 use Rattle.ledger.specs.Calls.{by_account, closing, outcome, tests, with_lines}
 use Rattle.ledger.specs.Days.{is_complete}
 use Rattle.ledger.specs.Due.{lines_due_in}
 use Rattle.gas.specs.Tariffs.{Tariff}
 use Rattle.ledger.specs.Year.{Standing, is_opened}
-use Rattle.book.specs.declared.year.MeterYear.{MeterYear}
 use Rattle.book.specs.Books.{Contents, state_of, with_closings}
 use Rattle.book.specs.Years.{year_by}
 use Rattle.book.proofs.Outcomes.{passed, refused, taken, untaken}
 
 -- a closing, in an account that was opened
-module _ {y : MeterYear} {lines : List Line} {b : Contents}
-    (same : record { year = y; lines = lines } ≡ b) (month : ℕ) (n : ClosingNumbers) (s : Tariff)
+module _ {was b : Contents} (same : was ≡ b) (month : ℕ) (n : ClosingNumbers) (s : Tariff)
     (t : Standing) (opened : is_opened t ≡ true)
   where
     pub month_refused :
@@ -53,24 +50,24 @@ module _ {y : MeterYear} {lines : List Line} {b : Contents}
             rw (opened, first.0, second.0, first.1) refl
 
         pub not_earliest :
-            (m ≡ length y.closings → ⊥) →
+            (m ≡ length was.year.closings → ⊥) →
             Err fault.NotEarliest ≡ outcome s (closing month n) (state_of t b)
         not_earliest other =
-            let test : eqb m (length y.closings) ≡ false = grind (arith, nat_tests) in
+            let test : eqb m (length was.year.closings) ≡ false = grind (arith, nat_tests) in
             refused s (closing month n) (state_of t b) fault.NotEarliest
             (lawful_input ∙ rw (sym same, test) refl)
 
         pub lacks_day :
-            m ≡ length y.closings → is_complete y.leap y.days m ≡ false →
+            m ≡ length was.year.closings → is_complete was.year.leap was.year.days m ≡ false →
             Err fault.LacksDay ≡ outcome s (closing month n) (state_of t b)
         lacks_day next lacks =
             refused s (closing month n) (state_of t b) fault.LacksDay
             (lawful_input ∙ rw (sym same, lacks, eq-eqb _ _ next) refl)
 
         pub closed :
-            {put : Contents} → m ≡ length y.closings → is_complete y.leap y.days m ≡ true →
+            {put : Contents} → m ≡ length was.year.closings → is_complete was.year.leap was.year.days m ≡ true →
             put ≡ with_closings b (b.year.closings ++ c ∷ []) →
-            with_lines (year_by t put.year) put.lines
+            with_lines (state_of t put)
             (by_account (lines_due_in s (year_by t put.year) put.lines)) ≡ outcome s
             (closing month n) (state_of t b)
         closed next complete is_put =

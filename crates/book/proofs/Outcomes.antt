@@ -13,13 +13,12 @@ use Rattle.ledger.specs.declared.lines.TheConstants.{MOST_LINES}
 use Rattle.gas.specs.Inputs.{first_failure, answer_by, value_if}
 use Rattle.gas.specs.Made.{day_of}
 use Rattle.ledger.specs.Calls.{Call, State, Tests, by_account, correction, day_input, day_tests}
-use Rattle.ledger.specs.Calls.{year_after, outcome, posting, tests, with_lines, lines_of_call}
+use Rattle.ledger.specs.Calls.{known_after, outcome, posting, tests, with_lines, lines_of_call}
 use Rattle.ledger.specs.Days.{Places, place_of}
 use Rattle.ledger.specs.Due.{lines_due_in}
 use Rattle.gas.specs.Tariffs.{Tariff}
-use Rattle.ledger.specs.Year.{Opening, Standing, Year, is_opened}
+use Rattle.ledger.specs.Year.{Opening, Standing, is_opened}
 use Rattle.book.specs.Books.{Contents, state_of, with_days}
-use Rattle.book.specs.declared.year.MeterYear.{MeterYear}
 use Rattle.book.specs.declared.terms.SettlementTerms.{SettlementTerms}
 use Rattle.book.specs.Days.{exchanged_days}
 use Rattle.book.specs.Terms.{standing_by}
@@ -35,8 +34,7 @@ refused s c a f e = rw e refl
 -- one of which none fails writes its lines
 pub passed :
     (s : Tariff) (c : Call) (a : State) → first_failure (tests c a) ≡ None →
-    outcome s c a ≡ with_lines (year_after c a.year) a.lines
-    (lines_of_call s c (year_after c a.year) a.lines)
+    outcome s c a ≡ with_lines (known_after c a) (lines_of_call s c (known_after c a))
 unfolding outcome
 passed s c a e = rw e refl
 
@@ -99,34 +97,33 @@ taken false g m a e = absurd cc
 
 -- lines for which there is room are written
 pub fits :
-    (y : Year) (lines more : List Line) → length lines + length more ≤ MOST_LINES →
-    with_lines y lines (Ok more) ≡ Ok (record { year = y; lines = lines ++ more })
-fits y lines more room = let test : leb (length lines + length more) MOST_LINES ≡ true = grind
+    (a : State) (more : List Line) → length a.lines + length more ≤ MOST_LINES →
+    with_lines a (Ok more) ≡ Ok (record a { lines = a.lines ++ more })
+fits a more room = let test : leb (length a.lines + length more) MOST_LINES ≡ true = grind
     (arith, nat_tests) in rw test refl
 
 -- a posting, in any account that was opened
-module _ {y : MeterYear} {lines : List Line} {b : Contents}
-    (same : record { year = y; lines = lines } ≡ b) (month day : ℕ) (n : DayNumbers) (s : Tariff)
+module _ {was b : Contents} (same : was ≡ b) (month day : ℕ) (n : DayNumbers) (s : Tariff)
     (t : Standing) (opened : is_opened t ≡ true)
   where
     pub posting_refused :
-        {f : AccountFault} → Some f ≡ first_failure (day_input y.leap month day n) →
+        {f : AccountFault} → Some f ≡ first_failure (day_input was.year.leap month day n) →
         Err f ≡ outcome s (posting month day n) (state_of t b)
     posting_refused {f = f} e =
         rw (sym same) (refused s (posting month day n)
-        (record { year = year_by t y; lines = lines }) f
-        (day_refused (record { year = year_by t y; lines = lines }) month day n _ opened f
+        (state_of t was) f
+        (day_refused (state_of t was) month day n _ opened f
         (sym e)))
 
     module _ {place : ℕ} {stands : Option DayRecord}
-        (e : None ≡ first_failure (day_input y.leap month day n)) (at : place ≡ place_of month day)
-        (is : stands ≡ get_or y.days place None)
+        (e : None ≡ first_failure (day_input was.year.leap month day n)) (at : place ≡ place_of month day)
+        (is : stands ≡ get_or was.year.days place None)
       where
         tested : first_failure (tests (posting month day n)
-            (record { year = year_by t y; lines = lines })) ≡ first_failure
+            (state_of t was)) ≡ first_failure
             ((not (is_some stands), fault.PostedAlready) ∷ [])
         tested =
-            day_passed (record { year = year_by t y; lines = lines }) month day n _ opened (sym e)
+            day_passed (state_of t was) month day n _ opened (sym e)
             ∙ rw (is, at) refl
 
         pub posted_already :
@@ -134,21 +131,21 @@ module _ {y : MeterYear} {lines : List Line} {b : Contents}
             Err fault.PostedAlready ≡ outcome s (posting month day n) (state_of t b)
         posted_already posted =
             rw (sym same) (refused s (posting month day n)
-            (record { year = year_by t y; lines = lines }) fault.PostedAlready
+            (state_of t was) fault.PostedAlready
             (tested ∙ rw (sym posted) refl))
 
         pub posted :
             {d : DayRecord} {after : Contents} → false ≡ is_some stands → Ok d ≡ day_of n →
-            length lines ≤ MOST_LINES → after ≡ with_days b (set b.year.days place (Some d)) →
+            length was.lines ≤ MOST_LINES → after ≡ with_days b (set b.year.days place (Some d)) →
             Ok (state_of t after) ≡ outcome s (posting month day n) (state_of t b)
         posted absent made room left =
-            let a : State = record { year = year_by t y; lines = lines } in
+            let a : State = state_of t was in
             let passes : first_failure (tests (posting month day n) a) ≡ None = tested ∙ rw
             (sym absent) refl in
-            let all : length lines + 0 ≤ MOST_LINES = omega arith in
+            let all : length was.lines + 0 ≤ MOST_LINES = omega arith in
             rw (left, sym same) (sym (passed s (posting month day n) a passes ∙ fits
-            (year_after (posting month day n) a.year) lines [] all ∙ rw
-            (sym made, at, append-nil lines) refl))
+            (known_after (posting month day n) a) [] all ∙ rw
+            (sym made, at, append-nil was.lines) refl))
 
 -- an account that has terms was opened
 pub opened_by : (o : Opening) (t : Option SettlementTerms) → is_opened (standing_by o t) ≡ true
@@ -177,21 +174,20 @@ put_back (x ∷ xs) zero d before e = rw e refl
 put_back (x ∷ xs) (suc n) d before e = ap (λ (ds : Places). x ∷ ds) (put_back xs n d before e)
 
 -- a correction, in an account that was opened
-module _ {y : MeterYear} {lines : List Line} {b : Contents}
-    (same : record { year = y; lines = lines } ≡ b) (month day : ℕ) (n : DayNumbers) (s : Tariff)
+module _ {was b : Contents} (same : was ≡ b) (month day : ℕ) (n : DayNumbers) (s : Tariff)
     (t : Standing) (opened : is_opened t ≡ true)
   where
     pub correction_refused :
-        {f : AccountFault} → Some f ≡ first_failure (day_input y.leap month day n) →
+        {f : AccountFault} → Some f ≡ first_failure (day_input was.year.leap month day n) →
         Err f ≡ outcome s (correction month day n) (state_of t b)
     correction_refused {f = f} e =
         rw (sym same) (refused s (correction month day n)
-        (record { year = year_by t y; lines = lines }) f
-        (day_refused (record { year = year_by t y; lines = lines }) month day n _ opened f
+        (state_of t was) f
+        (day_refused (state_of t was) month day n _ opened f
         (sym e)))
 
     module _ {place : ℕ} {stands : Option DayRecord}
-        (e : None ≡ first_failure (day_input y.leap month day n)) (at : place ≡ place_of month day)
+        (e : None ≡ first_failure (day_input was.year.leap month day n)) (at : place ≡ place_of month day)
         (is : stands ≡ get_or b.year.days place None)
       where
         corrected :
@@ -199,9 +195,9 @@ module _ {y : MeterYear} {lines : List Line} {b : Contents}
             ((is_some stands, fault.NotPosted) ∷ [])
         corrected =
             let first : first_failure (tests (correction month day n)
-            (record { year = year_by t y; lines = lines })) ≡ first_failure
-            ((is_some (get_or y.days (place_of month day) None), fault.NotPosted) ∷ []) = day_passed
-            (record { year = year_by t y; lines = lines }) month day n _ opened (sym e) in
+            (state_of t was)) ≡ first_failure
+            ((is_some (get_or was.year.days (place_of month day) None), fault.NotPosted) ∷ []) = day_passed
+            (state_of t was) month day n _ opened (sym e) in
             rw (is, at, sym same) first
 
         pub not_posted :
@@ -213,7 +209,7 @@ module _ {y : MeterYear} {lines : List Line} {b : Contents}
         pub corrects :
             {d before : DayRecord} {put : Contents} → Some before ≡ stands → Ok d ≡ day_of n →
             put ≡ with_days b (exchanged_days b.year.days place d (Some before)) →
-            with_lines (year_by t put.year) put.lines
+            with_lines (state_of t put)
             (by_account (lines_due_in s (year_by t put.year) put.lines)) ≡ outcome s
             (correction month day n) (state_of t b)
         corrects was made is_put =

@@ -1,5 +1,5 @@
 -- What a payment leaves is the outcome of the call.
-use Rattle.std.proofs.Common.{◌≡◌, ℕ, ◌+◌, ◌≤◌, true, false, leb, ◌&&◌, List, length, pos, neg_ℤ}
+use Rattle.std.proofs.Common.{◌≡◌, ℕ, ◌+◌, ◌≤◌, true, false, leb, ◌&&◌, length, pos, neg_ℤ}
 use Rattle.std.proofs.Common.{None, Ok, Err, refl, sym, ◌∙◌, arith}
 use Rattle.std.proofs.lemmas.Bool.Decides.{nat_tests}
 use Rattle.gas.specs.declared.faults.InputFault.{InputFault}
@@ -13,13 +13,11 @@ use Rattle.ledger.specs.Calls.{outcome, payment, tests}
 use Rattle.ledger.specs.Headings.{line_of}
 use Rattle.gas.specs.Tariffs.{Tariff}
 use Rattle.ledger.specs.Year.{Standing, is_opened}
-use Rattle.book.specs.declared.year.MeterYear.{MeterYear}
 use Rattle.book.specs.Books.{Contents, state_of, with_line}
 use Rattle.book.proofs.Outcomes.{passed, refused, taken, untaken}
 
 -- a payment, in any account that was opened
-module _ {y : MeterYear} {lines : List Line} {b : Contents}
-    (same : record { year = y; lines = lines } ≡ b) (amount : ℕ) (s : Tariff) (t : Standing)
+module _ {was b : Contents} (same : was ≡ b) (amount : ℕ) (s : Tariff) (t : Standing)
     (opened : is_opened t ≡ true)
   where
     pub payment_refused :
@@ -44,19 +42,19 @@ module _ {y : MeterYear} {lines : List Line} {b : Contents}
             ) refl
 
         pub no_room_to_pay :
-            {room : ℕ} → room + length lines ≡ MOST_LINES → room ≡ 0 →
+            {room : ℕ} → room + length was.lines ≡ MOST_LINES → room ≡ 0 →
             Err fault.NoRoom ≡ outcome s (payment amount) (state_of t b)
         no_room_to_pay whole none =
-            let test : leb (length lines + 1) MOST_LINES ≡ false = grind (arith, nat_tests) in
+            let test : leb (length was.lines + 1) MOST_LINES ≡ false = grind (arith, nat_tests) in
             sym (passed s (payment amount) (state_of t b) lawful_payment ∙ rw (sym same, test) refl)
 
         pub paid :
-            {room : ℕ} {after : Contents} → room + length lines ≡ MOST_LINES → (room ≡ 0 → ⊥) →
+            {room : ℕ} {after : Contents} → room + length was.lines ≡ MOST_LINES → (room ≡ 0 → ⊥) →
             after ≡ with_line b line →
             Ok (state_of t after) ≡ outcome s (payment amount) (state_of t b)
         paid whole some is_after =
-            let left : length lines + 1 ≤ MOST_LINES = omega (arith, some) in
-            let test : leb (length lines + 1) MOST_LINES ≡ true = grind (arith, nat_tests) in
+            let left : length was.lines + 1 ≤ MOST_LINES = omega (arith, some) in
+            let test : leb (length was.lines + 1) MOST_LINES ≡ true = grind (arith, nat_tests) in
             let same_line = (taken (leb 1 amount && leb amount MOST_PAID) input.Payment line due
             of_amount).1 in
             sym (passed s (payment amount) (state_of t b) lawful_payment ∙ rw

@@ -135,29 +135,32 @@ year_after (settling t) y = record y { standing = settled (opening_of y.standing
 abbrev pub by_account : {A : Type 0} → Result A ScheduleFault → Result A AccountFault
 by_account r = result_map_both (λ a. a) fault.Schedule r
 
--- the lines that a call writes in the year as known after it, or the fault of a price
-abbrev pub lines_of_call :
-    Tariff → Call → Year → List Line → Result (List Line) AccountFault
-lines_of_call s (opening leap o) y lines = Ok []
-lines_of_call s (posting month day n) y lines = Ok []
-lines_of_call s (correction month day n) y lines = by_account (lines_due_in s y lines)
-lines_of_call s (closing month numbers) y lines = by_account (lines_due_in s y lines)
-lines_of_call s (payment amount) y lines =
+-- what is known after a call that was accepted, before it has written its lines
+abbrev pub known_after : Call → State → State
+known_after c a = record a { year = year_after c a.year }
+
+-- the lines that a call writes, in an account in which what the call says is known; or the fault of
+-- a price
+abbrev pub lines_of_call : Tariff → Call → State → Result (List Line) AccountFault
+lines_of_call s (opening leap o) a = Ok []
+lines_of_call s (posting month day n) a = Ok []
+lines_of_call s (correction month day n) a = by_account (lines_due_in s a.year a.lines)
+lines_of_call s (closing month numbers) a = by_account (lines_due_in s a.year a.lines)
+lines_of_call s (payment amount) a =
     Ok (line_of heading.Payment (pos 0) (neg_ℤ (pos amount)) ∷ [])
-lines_of_call s (settling t) y lines = by_account (lines_due_in s y lines)
+lines_of_call s (settling t) a = by_account (lines_due_in s a.year a.lines)
 
 -- the account with some lines more; refused by the fault of a price, else where there is no room
 -- for all of them
-abbrev pub with_lines :
-    Year → List Line → Result (List Line) AccountFault → Result State AccountFault
-with_lines y lines (Ok more) =
-    if nat_le (length lines + length more) MOST_LINES
-    then Ok (record { year = y; lines = lines ++ more })
+abbrev pub with_lines : State → Result (List Line) AccountFault → Result State AccountFault
+with_lines a (Ok more) =
+    if nat_le (length a.lines + length more) MOST_LINES
+    then Ok (record a { lines = a.lines ++ more })
     else Err fault.NoRoom
-with_lines y lines (Err e) = Err e
+with_lines a (Err e) = Err e
 
 -- the one outcome of a call: the account after it, or its refusal
 unfoldable pub outcome : Tariff → Call → State → Result State AccountFault
 outcome s c a =
     answer_unless (first_failure (tests c a))
-    (with_lines (year_after c a.year) a.lines (lines_of_call s c (year_after c a.year) a.lines))
+    (with_lines (known_after c a) (lines_of_call s c (known_after c a)))
