@@ -7,6 +7,7 @@ mod cents;
 mod faults;
 mod lines;
 mod statement;
+mod sums;
 mod worked;
 
 pub use cents::{Cents, MILLICENTS_A_CENT};
