@@ -1,4 +1,4 @@
--- The six calls of an account, and the one outcome of each.
+-- The seven calls of an account, and the one outcome of each.
 use Rattle.std.specs.Prelude.{ℕ, ◌+◌, Bool, if◌then◌else◌, not, ◌&&◌, List, [], ◌∷◌, ◌++◌, length}
 use Rattle.std.specs.Prelude.{map, pos, neg_ℤ, is_some, Some, None, Ok, Err, Result, ◌==◌, nat_le}
 use Rattle.std.specs.Prelude.{nat_lt, slice_index_or, slice_set}
@@ -24,6 +24,7 @@ use Rattle.gas.specs.Made.{day_of}
 use Rattle.ledger.specs.Days.{Places, is_complete, place_of}
 use Rattle.ledger.specs.Due.{lines_due_in}
 use Rattle.ledger.specs.Headings.{line_of}
+use Rattle.ledger.specs.Late.{late_line, late_tests}
 use Rattle.gas.specs.Tariffs.{Tariff}
 use Rattle.ledger.specs.Year.{Opening, Settlement, Year, is_opened, is_settled, opening_of, running}
 use Rattle.ledger.specs.Year.{settled, unknown_year}
@@ -41,11 +42,15 @@ pub data Call : Type 0 where
   payment : ℕ → Call
   -- the final increase and the interest
   settling : Settlement → Call
+  -- the number of the line up to which lines were due
+  late_charge : ℕ → Call
 
--- an account, by what it knows and what it has written
+-- an account, by what it knows and what it has written: the year as known, the lines, and the
+-- number of the last line charged for, up to which the last late charge was made; 0 where none was
 pub record State : Type 0 where
   pub year : Year
   pub lines : List Line
+  pub charged : ℕ
 
 -- tests in their order, each with the refusal where it fails
 abbrev pub Tests : Type 0
@@ -89,7 +94,8 @@ abbrev pub is_posted : Year → ℕ → ℕ → Bool
 is_posted y month day = is_some (slice_index_or y.days (place_of month day) None)
 
 -- first whether the account is opened, then what is wrong with the input, lowest number first, then
--- what else the state refuses, likewise
+-- what else the state refuses, likewise; so of a late charge room for its line is tested before what
+-- is owed
 abbrev pub tests : Call → State → Tests
 tests (opening leap o) a =
     (not (is_opened a.year.standing), fault.OpenedAlready) ∷ opening_input leap o
@@ -108,6 +114,9 @@ tests (settling t) a =
     opened_test a ∷ settlement_input t ∷
     (not (is_settled a.year.standing), fault.SettledAlready) ∷
     (nat_lt (opening_of a.year.standing).last (length a.year.closings), fault.InterimOpen) ∷ []
+tests (late_charge k) a =
+    opened_test a ∷ (nat_lt (length a.lines) MOST_LINES, fault.NoRoom) ∷
+    push (late_tests k a.lines) (nat_lt a.charged k, fault.ChargedAlready)
 
 -- the days with one more or another record
 abbrev pub days_with : Result DayRecord InputFault → Places → ℕ → Places
@@ -130,6 +139,18 @@ year_after (correction month day n) y = with_day y month day n
 year_after (closing month numbers) y = record y { closings = push y.closings numbers }
 year_after (payment amount) y = y
 year_after (settling t) y = record y { standing = settled (opening_of y.standing) t }
+year_after (late_charge k) y = y
+
+-- the last line charged for after a call that was accepted; no other call than a late charge changes
+-- it
+abbrev pub charged_after : Call → ℕ → ℕ
+charged_after (opening leap o) charged = charged
+charged_after (posting month day n) charged = charged
+charged_after (correction month day n) charged = charged
+charged_after (closing month numbers) charged = charged
+charged_after (payment amount) charged = charged
+charged_after (settling t) charged = charged
+charged_after (late_charge k) charged = k
 
 -- the fault of a price, as the account's refusal
 abbrev pub by_account : {A : Type 0} → Result A ScheduleFault → Result A AccountFault
@@ -137,7 +158,8 @@ by_account r = result_map_both (λ a. a) fault.Schedule r
 
 -- what is known after a call that was accepted, before it has written its lines
 abbrev pub known_after : Call → State → State
-known_after c a = record a { year = year_after c a.year }
+known_after c a =
+    record a { year = year_after c a.year; charged = charged_after c a.charged }
 
 -- the lines that a call writes, in an account in which what the call says is known; or the fault of
 -- a price
@@ -149,6 +171,7 @@ lines_of_call s (closing month numbers) a = by_account (lines_due_in s a.year a.
 lines_of_call s (payment amount) a =
     Ok (line_of heading.Payment (pos 0) (neg_ℤ (pos amount)) ∷ [])
 lines_of_call s (settling t) a = by_account (lines_due_in s a.year a.lines)
+lines_of_call s (late_charge k) a = Ok (late_line k a.lines ∷ [])
 
 -- the account with some lines more; refused by the fault of a price, else where there is no room
 -- for all of them

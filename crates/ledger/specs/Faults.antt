@@ -8,6 +8,7 @@ use Rattle.ledger.specs.declared.faults.AccountFault.TheVariants.{PostedAlready,
 use Rattle.ledger.specs.declared.faults.AccountFault.TheVariants.{NotEarliest, LacksDay}
 use Rattle.ledger.specs.declared.faults.AccountFault.TheVariants.{SettledAlready, InterimOpen}
 use Rattle.ledger.specs.declared.faults.AccountFault.TheVariants.{Schedule, NoRoom, NoLine}
+use Rattle.ledger.specs.declared.faults.AccountFault.TheVariants.{NotChargeable, ChargedAlready}
 
 -- 28 comes with the month, the item and the layer at which the amount passed its limit; the others
 -- with nothing
@@ -25,6 +26,8 @@ account_values (Schedule fault) =
     let v : ℕ × PriceValues = schedule_values fault in (v.0, Some v.1)
 account_values NoRoom = (29, None)
 account_values NoLine = (30, None)
+account_values NotChargeable = (31, None)
+account_values ChargedAlready = (32, None)
 
 -- the number of a refusal alone
 abbrev pub account_number : AccountFault → ℕ

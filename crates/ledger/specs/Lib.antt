@@ -4,6 +4,7 @@ pub mod Days
 pub mod Due
 pub mod Faults
 pub mod Headings
+pub mod Late
 pub mod Peaks
 pub mod Prices
 pub mod Printed

@@ -40,7 +40,7 @@ known_year (e ∷ h) = if is_some e.refusal then known_year h else year_after e.
 
 -- a new account knows nothing and has written nothing
 abbrev pub new_state : State
-new_state = record { year = unknown_year; lines = [] }
+new_state = record { year = unknown_year; lines = []; charged = 0 }
 
 -- the refusal of a call that finds an account, if it is refused
 abbrev pub refusal_by : Tariff → Call → State → Option AccountFault

@@ -35,6 +35,10 @@ pub enum AccountFault {
     NoRoom,
     /// 30: no line has that number.
     NoLine,
+    /// 31: what is owed is too little or too much for a late charge.
+    NotChargeable,
+    /// 32: a late charge was made up to that line, or up to a later one.
+    ChargedAlready,
 }
 
 impl AccountFault {
@@ -55,6 +59,8 @@ impl AccountFault {
             AccountFault::Schedule(fault) => fault.number(),
             AccountFault::NoRoom => 29,
             AccountFault::NoLine => 30,
+            AccountFault::NotChargeable => 31,
+            AccountFault::ChargedAlready => 32,
         }
     }
 

@@ -5,6 +5,7 @@
 
 mod cents;
 mod faults;
+mod late;
 mod lines;
 mod statement;
 mod sums;
@@ -12,8 +13,9 @@ mod worked;
 
 pub use cents::{Cents, MILLICENTS_A_CENT};
 pub use faults::AccountFault;
+pub use late::{LATE_PER_MILLE, LEAST_LATE_CHARGE, MOST_CHARGED, MOST_UNCHARGED, late_line};
 pub use lines::{
-    Heading, LAST_ITEM, Line, MOST_LINES, MOST_PAID, SignedTherms, Target, WHOLE_YEAR,
+    Heading, LAST_ITEM, Line, MOST_LINES, MOST_PAID, PAYMENT_ITEM, SignedTherms, Target, WHOLE_YEAR,
 };
 pub use statement::{MOST_TEXT, NumberedLine, Statement};
 pub use worked::worked_limits;
