@@ -4,6 +4,7 @@ pub mod ClosedMonths
 pub mod Collecting
 pub mod Differences
 pub mod Interim
+pub mod LateCharges
 pub mod Nearness
 pub mod OpenMonths
 pub mod Outcomes

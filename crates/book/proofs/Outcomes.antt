@@ -45,7 +45,7 @@ first_of :
 first_of true xs ys f g more h = more h
 first_of false xs ys f g more h = h
 
-fails_first :
+pub fails_first :
     (xs ys : Tests) (f : AccountFault) → first_failure xs ≡ Some f →
     first_failure (xs ++ ys) ≡ Some f
 fails_first [] ys f e = absurd cc
@@ -57,7 +57,7 @@ later_of :
 later_of true xs both ys g more h = more h
 later_of false xs both ys g more h = absurd cc
 
-fails_later :
+pub fails_later :
     (xs ys : Tests) → first_failure xs ≡ None → first_failure (xs ++ ys) ≡ first_failure ys
 fails_later [] ys e = refl
 fails_later (x ∷ xs) ys e = later_of x.0 _ _ _ x.1 (fails_later xs ys) e

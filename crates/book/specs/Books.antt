@@ -1,5 +1,5 @@
 -- What a book holds, and what is true of every book.
-use Rattle.std.specs.Prelude.{◌≤◌, Bool, List, [], length}
+use Rattle.std.specs.Prelude.{ℕ, ◌≤◌, Bool, List, [], length}
 use Rattle.std.specs.List.{push}
 use Rattle.gas.specs.declared.month.ClosingNumbers.{ClosingNumbers}
 use Rattle.ledger.specs.declared.lines.Line.{Line}
@@ -12,14 +12,17 @@ use Rattle.book.specs.declared.year.MeterYear.{MeterYear}
 use Rattle.book.specs.Tables.{IsKept, IsNear}
 use Rattle.book.specs.Years.{year_by}
 
--- what the meter told of the year with what closed its months, and the lines
+-- what the meter told of the year with what closed its months, the lines, and the last line charged
+-- for
 pub record Contents : Type 0 where
   pub year : MeterYear
   pub lines : List Line
+  pub charged : ℕ
 
 -- the account of a standing that has this book
 abbrev pub state_of : Standing → Contents → State
-state_of standing b = record { year = year_by standing b.year; lines = b.lines }
+state_of standing b =
+    record { year = year_by standing b.year; lines = b.lines; charged = b.charged }
 
 -- a book with other days
 abbrev pub with_days : Contents → Places → Contents
@@ -32,6 +35,10 @@ with_closings b closings = record b { year = record b.year { closings = closings
 -- a book with one line more
 abbrev pub with_line : Contents → Line → Contents
 with_line b line = record b { lines = push b.lines line }
+
+-- a book with the line of a charge for the lines up to a number
+abbrev pub with_charge : Contents → Line → ℕ → Contents
+with_charge b line k = record (with_line b line) { charged = k }
 
 -- a book whose year begins
 abbrev pub begun_book : Contents → Bool → Contents

@@ -2,7 +2,8 @@
 //! standing beside it, is the outcome of that call.
 ghost use Rattle.std.specs.Prelude.{◌≡◌, true, OnErr};
 ghost use Rattle.gas.specs.Inputs.{answer_by};
-ghost use Rattle.ledger.specs.Calls.{closing, correction, outcome, payment, posting, settling};
+ghost use Rattle.ledger.specs.Calls.{closing, correction, late_charge, outcome, payment, posting};
+ghost use Rattle.ledger.specs.Calls.{settling};
 ghost use Rattle.gas.specs.Tariffs.{Tariff};
 ghost use Rattle.ledger.specs.Year.{Standing, is_opened, running, settled};
 ghost use Rattle.book.specs.Terms.{opening_numbers, settlement_numbers, standing_of};
@@ -12,7 +13,7 @@ use crate::dated::DatedDay;
 use crate::payment::payment_line;
 use crate::terms::{OpeningTerms, SettlementTerms, Terms};
 use gas::{Closing, ClosingNumbers, DayNumbers, Month, Schedule};
-use ledger::AccountFault;
+use ledger::{AccountFault, late_line};
 
 impl Book {
     ghost use Rattle.book.specs.Books.{state_of};
@@ -108,6 +109,28 @@ impl Book {
             return Err(AccountFault::NoRoom);
         }
         self.append(line);
+        Ok(())
+    }
+
+    /// Writes a line with the charge on what is paid late, where the lines up to a number were due.
+    /// Refused are, in this order, with 29 an account that has no line left, with 30 a number that
+    /// no line has, with 31 where 1,000,000 millicents or less are owed, or more than 6 × 10^14, and
+    /// with 32 a number that is not beyond the last one charged for. It is so on any tariff and by
+    /// any standing of an account that was opened (`docs/ACCOUNT.md`).
+    pub fn charge_late(&mut self, number: usize) -> Result<(), AccountFault>
+        ensures is { (s : Tariff) (t : Standing) → is_opened t ≡ true →
+            answer_by (λ _. state_of t self.new) result ≡
+            outcome s (late_charge number) (state_of t self.old) }
+        ensures unchanged { OnErr result (self.new ≡ self.old) }
+    {
+        if self.lines.room() == 0 {
+            return Err(AccountFault::NoRoom);
+        }
+        let line = late_line(self.lines.all(), number)?;
+        if number <= self.charged {
+            return Err(AccountFault::ChargedAlready);
+        }
+        self.append_charge(line, number);
         Ok(())
     }
 
