@@ -6,8 +6,8 @@ use Rattle.gas.specs.Inputs.{first_failure}
 use Rattle.gas.specs.Tariffs.{Tariff}
 use Rattle.ledger.specs.declared.faults.AccountFault.{AccountFault}
 use Rattle.ledger.specs.declared.faults.AccountFault.TheVariants as fault
-use Rattle.ledger.specs.Calls.{Call, State, closing, correction, opening, outcome, payment, posting}
-use Rattle.ledger.specs.Calls.{settling, tests}
+use Rattle.ledger.specs.Calls.{Call, State, closing, correction, late_charge, opening, outcome}
+use Rattle.ledger.specs.Calls.{payment, posting, settling, tests}
 use Rattle.ledger.specs.Year.{not_opened}
 use Rattle.book.proofs.Outcomes.{refused}
 use Rattle.account.specs.Calls.{Called}
@@ -21,6 +21,7 @@ needs_opening (correction month day n) = true
 needs_opening (closing month n) = true
 needs_opening (payment amount) = true
 needs_opening (settling t) = true
+needs_opening (late_charge k) = true
 
 -- it is refused as such
 pub before_opening :
@@ -32,6 +33,7 @@ before_opening (correction month day n) a is e = rw e refl
 before_opening (closing month n) a is e = rw e refl
 before_opening (payment amount) a is e = rw e refl
 before_opening (settling t) a is e = rw e refl
+before_opening (late_charge k) a is e = rw e refl
 
 module _ {S : Type 0} {tariff : S → Tariff} {a : Holding S} {c : Call} where
   -- a test of the call fails

@@ -1,6 +1,7 @@
-//! The six calls of an account, each of which is a record of a journal.
+//! The seven calls of an account, of which all but the late charge are records of a journal.
 ghost use Rattle.std.specs.Prelude.{◌≡◌};
-ghost use Rattle.ledger.specs.Calls.{closing, correction, opening, payment, posting, settling};
+ghost use Rattle.ledger.specs.Calls.{closing, correction, late_charge, opening, payment, posting};
+ghost use Rattle.ledger.specs.Calls.{settling};
 ghost use Rattle.account.specs.Calls.{Called};
 ghost use Rattle.account.specs.Journals.{call_of};
 
@@ -90,6 +91,20 @@ impl<S: Schedule> Account<S> {
             final_increase,
             interest,
         })
+    }
+
+    /// Charges for what is paid late: the lines up to a number were due, counted from 1. No record
+    /// of a journal is this call. Refused are, in this order, with 20 an account that is not
+    /// opened, with 29 one that has no line left, with 30 a number that no line has, with 31 where
+    /// 1,000,000 millicents or less are owed, or more than 6 × 10^14, and with 32 a number that is
+    /// not beyond the last one charged for (`docs/ACCOUNT.md`).
+    pub fn charge_late(&mut self, number: usize) -> Result<(), AccountFault>
+        ensures { Called S.tariff self.old (late_charge number) result self.new }
+    {
+        match self.standing {
+            Standing::NotOpened => Err(AccountFault::NotOpened),
+            Standing::Running { .. } | Standing::Settled { .. } => self.book.charge_late(number),
+        }
     }
 
     /// Takes in a record of a journal: where the account stands and what the record is decide
