@@ -2,7 +2,7 @@
 
 /// What is wrong and its limit, for every refusal by its number: of the journal, of the input and
 /// of the account.
-const MESSAGES: [(u8, &str); 22] = [
+const MESSAGES: [(u8, &str); 24] = [
     (1, "the kind of a journal record is not 1 to 6"),
     (2, "the journal ends inside a record"),
     (
@@ -40,6 +40,14 @@ const MESSAGES: [(u8, &str); 22] = [
     ),
     (29, "more lines are due than the account has room for"),
     (30, "no line has that number"),
+    (
+        31,
+        "what is owed is 1000000 millicents or less, or more than 600000000000000",
+    ),
+    (
+        32,
+        "a late charge was made up to that line or a later one already",
+    ),
 ];
 
 /// What a refusal says to a person, by its number; nothing where no refusal has it

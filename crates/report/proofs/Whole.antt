@@ -1,10 +1,11 @@
 -- A journal that was played, and the whole text of it.
-use Rattle.std.proofs.Common.{◌≡◌, ℕ, List, [], ◌++◌, refl, subst}
+use Rattle.std.proofs.Common.{◌≡◌, ℕ, List, [], ◌++◌, append_assoc, refl, subst}
 use Rattle.account.specs.declared.faults.Refusal.{Refusal}
 use Rattle.account.specs.Playing.{Played}
 use Rattle.ledger.specs.Calls.{State}
 use Rattle.gas.specs.Tariffs.{Tariff}
 use Rattle.ledger.specs.Runs.{new_state}
+use Rattle.report.specs.Late.{PrintsCharged, after_charges, charges_text}
 use Rattle.report.specs.Outputs.{PlaysInto, PrintsPlayed}
 use Rattle.report.specs.Tariffs.{fixed_tariff}
 use Rattle.report.specs.Rows.{account_text, refusals_text}
@@ -24,3 +25,23 @@ pub played_is_printed :
     text ≡ some ++ account_text b.lines → PrintsPlayed bytes text
 played_is_printed bytes none some text b refusals played empty first then =
     (b, refusals, played, rw (then, first, empty) refl)
+
+-- the same with late charges between the two, in the account that the journal made
+pub charged_is_printed :
+    (numbers bytes none some more text : List ℕ) (s : Tariff) (b after : State)
+    (refusals : List Refusal) →
+    PlaysInto bytes b refusals → s ≡ fixed_tariff → none ≡ [] →
+    some ≡ none ++ refusals_text refusals → more ≡ some ++ charges_text s numbers b →
+    after ≡ after_charges s numbers b → text ≡ more ++ account_text after.lines →
+    PrintsCharged numbers bytes text
+charged_is_printed numbers bytes none some more text s b after refusals played tariff empty first
+    then is last = (
+      b,
+      refusals,
+      played,
+      subst
+          (λ (t : Tariff). text ≡
+          refusals_text refusals ++
+          (charges_text t numbers b ++ account_text (after_charges t numbers b).lines))
+          tariff (rw (last, then, first, empty, is) (append_assoc (refusals_text refusals) _ _)),
+    )

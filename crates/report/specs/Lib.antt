@@ -1,3 +1,4 @@
+pub mod Late
 pub mod Listing
 pub mod Named
 pub mod Outputs

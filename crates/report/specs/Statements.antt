@@ -12,7 +12,7 @@ use Rattle.ledger.specs.Calls.{State}
 use Rattle.ledger.specs.Printed.{statement_text}
 use Rattle.ledger.specs.Statements.{month_lines}
 use Rattle.account.specs.declared.faults.Refusal.{Refusal}
-use Rattle.report.specs.declared.statement.Answer.{Answer}
+use Rattle.report.specs.declared.answer.Answer.{Answer}
 use Rattle.report.specs.Outputs.{PlaysInto, UnlessTooLong}
 use Rattle.report.specs.Rows.{lines_text, refusals_text}
 

@@ -3,6 +3,8 @@
 //! listing of a journal; and tables of prices.
 #![tactic(auto)]
 
+mod answer;
+mod late;
 mod listing;
 mod months;
 mod named;
@@ -17,9 +19,11 @@ mod tables;
 #[cfg(test)]
 mod tests;
 
+pub use answer::Answer;
+pub use late::late_answer;
 pub use listing::journal_listing;
 pub use months::months_output;
 pub use named::named_output;
 pub use printing::output;
-pub use statement::{Answer, asked_month, statement_answer};
+pub use statement::{asked_month, statement_answer};
 pub use tables::{price_header, price_table};

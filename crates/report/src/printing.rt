@@ -37,8 +37,8 @@ fn write_lines<S: Schedule>(text: &mut String, account: &Account<S>) -> Result<(
     Ok(())
 }
 
-// The header, a row for each line, and their sum.
-fn write_account<S: Schedule>(text: &mut String, account: &Account<S>) -> Result<(), fmt::Error>
+/// The header, a row for each line, and their sum (`docs/ACCOUNT.md`).
+pub fn write_account<S: Schedule>(text: &mut String, account: &Account<S>) -> Result<(), fmt::Error>
     ensures { OnOk result (string_bytes text.new ≡
         string_bytes text.old ++ account_text account.now.state.lines) }
 {

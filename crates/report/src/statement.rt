@@ -7,6 +7,7 @@ ghost use Rattle.report.specs.Rows.{lines_text};
 ghost use Rattle.report.specs.Statements.{AnswersPlayed, AnswersStatement, IsRefused, NamesMonth};
 ghost use Rattle.report.specs.Statements.{month_refusal, number_of};
 
+use crate::answer::Answer;
 use crate::playing::play;
 use crate::printing::{too_long, write_refusals};
 use crate::rows::LineRow;
@@ -14,17 +15,6 @@ use gas::InputFault;
 use ledger::{Statement, WHOLE_YEAR};
 use std::alloc::Global;
 use std::fmt;
-
-/// What a program answers to its words and its input (`docs/STATEMENTS.md`).
-#[derive(Debug, Drop)]
-pub struct Answer {
-    /// What it writes on standard output.
-    pub output: String,
-    /// What it writes on standard error.
-    pub errors: String,
-    /// The status with which it ends: 1 where it is refused, and else 0.
-    pub status: u8,
-}
 
 // A refusal, with its reason for standard error.
 fn refused(alloc: Global, reason: String) -> Answer

@@ -9,4 +9,4 @@ returns c =
     refusals_text c.in_ok-account.refusals.items = rw
     (← c.deref.ensures.value) c.in_ok-write_refusals.ensures in
     played_is_printed _ (string_bytes c.new-text.result) (string_bytes c.write_refusals.new.text) _
-    _ _ c.in_ok-account.ensures c.new-text.ensures.bytes first c.in_ok-write_account.ensures
+    _ _ c.in_ok-account.ensures.plays c.new-text.ensures.bytes first c.in_ok-write_account.ensures
