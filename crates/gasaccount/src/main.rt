@@ -7,7 +7,7 @@ mod words;
 use crate::words::gasaccount;
 use clap::ArgMatches;
 use journal::load;
-use report::{Answer, asked_month, statement_answer};
+use report::{Answer, asked_month, late_answer, statement_answer};
 use std::alloc::Global;
 use std::env;
 use std::process::ExitCode;
@@ -24,6 +24,19 @@ fn statement(rt: &HostRuntime, matches: &ArgMatches) -> anyhow::Result<Answer> {
     Ok(statement_answer(alloc, word, with_lines, journal)?)
 }
 
+// Late charges behind the journal, up to each of the numbers in turn.
+fn late(rt: &HostRuntime, matches: &ArgMatches) -> anyhow::Result<Answer> {
+    let alloc = rt.alloc();
+    let mut numbers = Vec::new(alloc);
+    if let Some(asked) = matches.get_many::<usize>(words::NUMBERS) {
+        for number in asked {
+            numbers.push(number?)?;
+        }
+    }
+    let journal = load(alloc, rt.stdin())?;
+    Ok(late_answer(alloc, &numbers, journal)?)
+}
+
 fn main(rt: HostRuntime) -> anyhow::Result<ExitCode> {
     let alloc = rt.alloc();
     let words: Vec<String> = env::args(&rt)?.collect(alloc)?;
@@ -36,6 +49,7 @@ fn main(rt: HostRuntime) -> anyhow::Result<ExitCode> {
     };
     let answer = match matches.subcommand() {
         Some((words::STATEMENT, asked)) => statement(&rt, asked)?,
+        Some((words::LATE, asked)) => late(&rt, asked)?,
         // no other word is let through
         _ => return Ok(ExitCode::FAILURE),
     };

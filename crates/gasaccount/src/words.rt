@@ -1,5 +1,5 @@
-//! The words of the command line (`docs/STATEMENTS.md`).
-use clap::{Arg, ArgAction, Command};
+//! The words of the command line (`docs/ACCOUNT.md`, `docs/STATEMENTS.md`).
+use clap::{Arg, ArgAction, Command, value_parser};
 use std::alloc::{AllocError, Global};
 
 /// The word that asks for a month's statement.
@@ -10,6 +10,12 @@ pub const MONTH: &str = "MONTH";
 
 /// The option by which a statement's lines come first.
 pub const LINES: &str = "lines";
+
+/// The word that asks for late charges.
+pub const LATE: &str = "late";
+
+/// The argument with the numbers of the lines up to which they are made.
+pub const NUMBERS: &str = "K";
 
 // A month's statement.
 fn statement<'a>(alloc: Global) -> Result<Command<'a>, AllocError> {
@@ -27,10 +33,24 @@ fn statement<'a>(alloc: Global) -> Result<Command<'a>, AllocError> {
         .arg(lines)
 }
 
-/// All words that the program takes (`docs/STATEMENTS.md`).
+// Late charges behind the journal.
+fn late<'a>(alloc: Global) -> Result<Command<'a>, AllocError> {
+    let numbers = Arg::new(alloc, NUMBERS)
+        .required(true)
+        .num_args(1..)
+        .action(ArgAction::Append)
+        .value_parser(value_parser!(usize))
+        .help("The number of a line up to which lines were due; one charge for each, in order");
+    Command::new(alloc, LATE)
+        .about("Makes late charges, and prints what lines prints")
+        .arg(numbers)
+}
+
+/// All words that the program takes (`docs/ACCOUNT.md`, `docs/STATEMENTS.md`).
 pub fn gasaccount<'a>(alloc: Global) -> Result<Command<'a>, AllocError> {
     Command::new(alloc, "gasaccount")
         .about("Plays a journal from standard input into a gas account")
         .subcommand_required(true)
-        .subcommand(statement(alloc)?)
+        .subcommand(statement(alloc)?)?
+        .subcommand(late(alloc)?)
 }
