@@ -1,5 +1,5 @@
 //! Tests of an account: refusals in their order, limits, prices past theirs, room for lines, worked
-//! figures, questions, statements, records as calls, and whole journals.
+//! figures, questions, statements, late charges, records as calls, and whole journals.
 #![tactic(auto)]
 
 #[cfg(test)]
@@ -8,6 +8,8 @@ mod entering;
 mod first_days;
 #[cfg(test)]
 mod fixtures;
+#[cfg(test)]
+mod late;
 #[cfg(test)]
 mod limits;
 #[cfg(test)]

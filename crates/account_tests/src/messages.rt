@@ -6,8 +6,8 @@ use ledger::AccountFault;
 use std::test::Fail;
 
 // The numbers that a refusal has.
-const NUMBERS: [u8; 22] = [
-    1, 2, 3, 4, 5, 6, 7, 8, 9, 10, 11, 20, 21, 22, 23, 24, 25, 26, 27, 28, 29, 30,
+const NUMBERS: [u8; 24] = [
+    1, 2, 3, 4, 5, 6, 7, 8, 9, 10, 11, 20, 21, 22, 23, 24, 25, 26, 27, 28, 29, 30, 31, 32,
 ];
 
 #[test]
@@ -84,6 +84,14 @@ fn faults_tell_what_is_wrong_and_its_limit(rt: HostRuntime) -> Result<(), Fail> 
             "more lines are due than the account has room for",
         ),
         (AccountFault::NoLine, "no line has that number"),
+        (
+            AccountFault::NotChargeable,
+            "what is owed is 1000000 millicents or less, or more than 600000000000000",
+        ),
+        (
+            AccountFault::ChargedAlready,
+            "a late charge was made up to that line or a later one already",
+        ),
     ];
     for (fault, told) in state {
         assert_eq!(rt; format!(in alloc; "{fault}")?.as_str(), told);

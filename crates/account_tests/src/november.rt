@@ -121,11 +121,23 @@ fn by_records(rt: HostRuntime) -> Result<(), Fail> {
     Ok(())
 }
 
-// What is written where day 29 is read at 80, too. By hand: of 2,970 therms item 2 is 36,890,370;
-// item 4 is 30 × 6,570, and item 5 −30 × 31,000. At 137 item 9 is 7,184,331 and item 10 2,944,590,
-// at 100 they are 5,244,037 and 2,847,575. So the refund is 61,836,391 − 59,799,082 = 2,037,309,
-// and the interest 40,746.
-const CORRECTED: [Written; 7] = [
+/// The correction of the day before to a reading of 80.
+pub const SECOND: Record = Record::Correct {
+    day: Day {
+        day: 29,
+        numbers: DayNumbers {
+            reading: 80,
+            ..FULL
+        },
+        ..QUIET
+    },
+};
+
+/// What is written where day 29 is read at 80, too. By hand: of 2,970 therms item 2 is 36,890,370;
+/// item 4 is 30 × 6,570, and item 5 −30 × 31,000. At 137 item 9 is 7,184,331 and item 10 2,944,590,
+/// at 100 they are 5,244,037 and 2,847,575. So the refund is 61,836,391 − 59,799,082 = 2,037,309,
+/// and the interest 40,746.
+pub const CORRECTED: [Written; 7] = [
     (0, 2, 0, -248_420),
     (0, 4, 0, 131_400),
     (0, 5, 20, -620_000),
@@ -139,14 +151,7 @@ const CORRECTED: [Written; 7] = [
 fn a_correction_moves_refund_and_interest(rt: HostRuntime) -> Result<(), Fail> {
     let mut account = Account::new(FRANCHISE.on(Interim.on(SMALL)));
     enter(&mut account)?;
-    account.correct(
-        0,
-        29,
-        DayNumbers {
-            reading: 80,
-            ..FULL
-        },
-    )?;
+    account.enter(&SECOND)?;
     assert_eq!(rt; answers(&account), (18, 59_758_336, 0));
     ends_with(&rt, &account, &CORRECTED);
     Ok(())

@@ -1,5 +1,5 @@
-//! What is answered to the words of a month.
-use crate::{asked_month, statement_answer};
+//! What is answered to the words of a month, and to late charges.
+use crate::{asked_month, late_answer, statement_answer};
 use std::test::Fail;
 
 // Which words name a month, and the row that refuses the others.
@@ -50,5 +50,34 @@ fn of_journals(rt: HostRuntime) -> Result<(), Fail> {
     assert_eq!(rt; answer.output.as_str(), "total 0\n");
     assert_eq!(rt; answer.errors.as_str(), "refused 1 20\nrefused 2 1\n");
     assert_eq!(rt; answer.status, 0);
+    Ok(())
+}
+
+// Late charges behind a journal: what each adds, and where its refusal stands.
+#[test]
+fn of_late_charges(rt: HostRuntime) -> Result<(), Fail> {
+    let alloc = rt.alloc();
+    let answer = late_answer(alloc, &[1, 2], None)?;
+    assert_eq!(rt; answer.output.as_str(), "too long\n");
+    assert_eq!(rt; answer.errors.as_str(), "");
+    assert_eq!(rt; answer.status, 1);
+    let journals: [(&[u8], &str); 3] = [
+        (&[], "refused late 1 20\nrefused late 0 20\n"),
+        (
+            &[5, 100, 0, 0, 0, 0, 0, 0, 0, 7],
+            "refused 1 20\nrefused 2 1\nrefused late 1 20\nrefused late 0 20\n",
+        ),
+        (
+            &[1, 0, 0, 0, 0, 0],
+            "refused late 1 30\nrefused late 0 30\n",
+        ),
+    ];
+    for (journal, refused) in journals {
+        let answer = late_answer(alloc, &[1, 0], Some(Vec::from_slice(alloc, journal)?))?;
+        let output = format!(in alloc; "{refused}no month item therms millicents\nsum 0\n")?;
+        assert_eq!(rt; answer.output.as_str(), output.as_str());
+        assert_eq!(rt; answer.errors.as_str(), "");
+        assert_eq!(rt; answer.status, 0);
+    }
     Ok(())
 }
