@@ -34,7 +34,7 @@ impl<S> Model for Account<S> {
 impl<S: Schedule> Account<S> {
     ghost use Rattle.account.specs.Holdings.{Holding};
 
-    /// A new account, which is not opened, knows nothing and has written nothing
+    /// A new account, which is not opened, knows nothing, has written and charged for nothing
     /// (`docs/ACCOUNT.md`).
     pub fn new(schedule: S) -> Account<S>
         ensures { result ≡ record { schedule = schedule; state = new_state } }

@@ -1,4 +1,4 @@
-//! The gas account: its six calls, its questions, and the playing of a journal.
+//! The gas account: its seven calls, its questions, and the playing of a journal.
 #![tactic(auto)]
 
 mod account;

@@ -27,6 +27,7 @@ fn charge<S: Schedule>(
         assert_eq!(rt; answers(account), (count, total, open), "{number}");
         return Err(fault.number());
     }
+    assert_eq!(rt; account.line_count(), count + 1, "{number}");
     let (month, item, therms, money) = written(account, count + 1)?;
     assert_eq!(rt; (month, item, therms), (12, 14, 0), "{number}");
     assert_eq!(rt;
@@ -95,8 +96,8 @@ fn of_what_is_owed(rt: HostRuntime) {
     }
 }
 
-// Late charges up to the last line, each of which is owed in the next one, until more than 6 × 10^14
-// millicents are. A payment behind the line takes off what is too much.
+// Late charges up to the last line, each of which is owed in the next one, until more than
+// 6 × 10^14 millicents are. A payment behind the line takes off what is too much.
 #[test]
 fn of_the_most_that_can_be_owed(rt: HostRuntime) {
     let mut account = Account::new(DEAR.on(SMALL));
@@ -125,8 +126,8 @@ fn of_the_most_that_can_be_owed(rt: HostRuntime) {
 
 // Line 1 is November's, 2 and 3 are payments, 4 is December's, and 5 a payment. Each payment counts
 // once, before the line or behind it; a late charge counts where it stands among the lines that
-// were due. By hand: 11,000,000 are owed up to lines 1 and 2, 26,550,000 up to 4 and 5, and from
-// there on 165,000 more for each late charge that was due.
+// were due. By hand: 11,000,000 are owed up to lines 1 and 2, 26,550,000 up to 4 and 5, 26,715,000
+// and 26,880,000 with the late charges in lines 6 and 7, and 28,480,000 with all up to 11.
 #[test]
 fn of_payments_and_late_charges(rt: HostRuntime) {
     let mut account = idle_november(&rt);
@@ -151,22 +152,48 @@ fn of_payments_and_late_charges(rt: HostRuntime) {
     charges(&rt, &mut account, &expected);
 }
 
-// Of the worked November a refund is owed where it stands among the lines that were due, and not
-// where it stands behind them: 62,645,997, 60,599,037 and 60,558,098 millicents.
-#[test]
-fn of_a_refund(rt: HostRuntime) -> Result<(), Fail> {
+// Posts and closes the worked November.
+fn close_november<S: Schedule>(rt: &impl Abort, account: &mut Account<S>) {
+    accepts(rt, account, OPENING);
+    post(rt, account, 1..31, even(0, 0, 100));
+    accepts(rt, account, closing(0));
+}
+
+// Late charges behind the worked November, and behind a payment if it is not 0.
+fn behind_november(rt: &impl Abort, paid: i64, expected: &[(usize, Result<i64, u8>)]) {
     let mut account = Account::new(FRANCHISE.on(Interim.on(SMALL)));
-    accepts(&rt, &mut account, OPENING);
-    post(&rt, &mut account, 1..31, even(0, 0, 100));
-    for record in [closing(0), CORRECTION, SETTLING] {
-        accepts(&rt, &mut account, record);
+    close_november(rt, &mut account);
+    accepts(rt, &mut account, CORRECTION);
+    accepts(rt, &mut account, SETTLING);
+    if paid != 0 {
+        accepts(rt, &mut account, paying(paid));
     }
-    charges(
-        &rt,
-        &mut account,
-        &[(9, Ok(940_000)), (10, Ok(909_000)), (11, Ok(908_000))],
-    );
-    Ok(())
+    charges(rt, &mut account, expected);
+}
+
+// A refund takes off what is owed where it stands among the lines that were due, and not where it
+// stands behind them: 62,645,997, 60,599,037 and 60,558,098 millicents are owed.
+#[test]
+fn of_a_refund(rt: HostRuntime) {
+    let expected = [(9, Ok(940_000)), (10, Ok(909_000)), (11, Ok(908_000))];
+    behind_november(&rt, 0, &expected);
+}
+
+// The late charges behind November of docs/LEDGER.md.
+#[test]
+fn of_the_worked_payments(rt: HostRuntime) {
+    let expected = [
+        (0, Err(30)),
+        (4, Ok(196_000)),
+        (4, Err(32)),
+        (3, Err(32)),
+        (11, Ok(158_000)),
+        (13, Ok(161_000)),
+        (16, Err(30)),
+    ];
+    behind_november(&rt, 50_000_000, &expected);
+    behind_november(&rt, 55_000_000, &[(11, Ok(100_000))]);
+    behind_november(&rt, 60_000_000, &[(11, Err(31))]);
 }
 
 // Each refusal with every later fault that can go with it.
@@ -217,9 +244,7 @@ fn a_charge_just_fits(rt: HostRuntime) {
 #[test]
 fn of_a_year_that_goes_on(rt: HostRuntime) -> Result<(), Fail> {
     let mut account = Account::new(FRANCHISE.on(Interim.on(SMALL)));
-    accepts(&rt, &mut account, OPENING);
-    post(&rt, &mut account, 1..31, even(0, 0, 100));
-    accepts(&rt, &mut account, closing(0));
+    close_november(&rt, &mut account);
     charges(&rt, &mut account, &[(4, Ok(946_000))]);
     accepts(&rt, &mut account, CORRECTION);
     ends_with(&rt, &account, &LINES[4..9]);

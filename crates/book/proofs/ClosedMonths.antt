@@ -65,7 +65,8 @@ module _ {was b : Contents} (same : was ≡ b) (month : ℕ) (n : ClosingNumbers
             (lawful_input ∙ rw (sym same, lacks, eq-eqb _ _ next) refl)
 
         pub closed :
-            {put : Contents} → m ≡ length was.year.closings → is_complete was.year.leap was.year.days m ≡ true →
+            {put : Contents} → m ≡ length was.year.closings →
+            is_complete was.year.leap was.year.days m ≡ true →
             put ≡ with_closings b (b.year.closings ++ c ∷ []) →
             with_lines (state_of t put)
             (by_account (lines_due_in s (year_by t put.year) put.lines)) ≡ outcome s

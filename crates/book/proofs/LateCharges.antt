@@ -15,8 +15,8 @@ use Rattle.ledger.specs.Year.{Standing, is_opened}
 use Rattle.book.specs.Books.{Contents, state_of, with_charge}
 use Rattle.book.proofs.Outcomes.{fails_first, fails_later, passed, refused}
 
--- an answer that tests decide: its refusal is the first of theirs, and its value is given where none
--- fails
+-- an answer that tests decide: its refusal is the first of theirs, and its value is given where
+-- none fails
 unanswered :
     {A F : Type 0} (failure : Option F) (a : A) (f : F) → Err f ≡ answer_unless failure (Ok a) →
     failure ≡ Some f
@@ -61,15 +61,19 @@ module _ {was b : Contents} (same : was ≡ b) (k : ℕ) (s : Tariff) (t : Stand
           (Ok (late_line k was.lines)) → Err f ≡ outcome s (late_charge k) (state_of t b)
       charge_refused {f = f} e =
           refused s (late_charge k) (state_of t b) f
-          (tested ∙ fails_first (late_tests k was.lines) (beyond was.charged k) f (unanswered _ _ f e))
+          (tested ∙ fails_first (late_tests k was.lines) (beyond was.charged k) f
+          (unanswered _ _ f e))
 
       module _ {line : Line}
           (e : Ok line ≡ answer_unless (first_failure (late_tests k was.lines))
           (Ok (late_line k was.lines)))
         where
           lawful :
-              first_failure (tests (late_charge k) (state_of t b)) ≡ first_failure (beyond was.charged k)
-          lawful = tested ∙ fails_later (late_tests k was.lines) (beyond was.charged k) (answered _ line _ e).0
+              first_failure (tests (late_charge k) (state_of t b)) ≡ first_failure
+              (beyond was.charged k)
+          lawful =
+              tested ∙ fails_later (late_tests k was.lines) (beyond was.charged k)
+              (answered _ line _ e).0
 
           pub charged_already :
               k ≤ was.charged →

@@ -116,7 +116,8 @@ module _ {was b : Contents} (same : was ≡ b) (month day : ℕ) (n : DayNumbers
         (sym e)))
 
     module _ {place : ℕ} {stands : Option DayRecord}
-        (e : None ≡ first_failure (day_input was.year.leap month day n)) (at : place ≡ place_of month day)
+        (e : None ≡ first_failure (day_input was.year.leap month day n))
+        (at : place ≡ place_of month day)
         (is : stands ≡ get_or was.year.days place None)
       where
         tested : first_failure (tests (posting month day n)
@@ -187,7 +188,8 @@ module _ {was b : Contents} (same : was ≡ b) (month day : ℕ) (n : DayNumbers
         (sym e)))
 
     module _ {place : ℕ} {stands : Option DayRecord}
-        (e : None ≡ first_failure (day_input was.year.leap month day n)) (at : place ≡ place_of month day)
+        (e : None ≡ first_failure (day_input was.year.leap month day n))
+        (at : place ≡ place_of month day)
         (is : stands ≡ get_or b.year.days place None)
       where
         corrected :
@@ -196,7 +198,8 @@ module _ {was b : Contents} (same : was ≡ b) (month day : ℕ) (n : DayNumbers
         corrected =
             let first : first_failure (tests (correction month day n)
             (state_of t was)) ≡ first_failure
-            ((is_some (get_or was.year.days (place_of month day) None), fault.NotPosted) ∷ []) = day_passed
+            ((is_some (get_or was.year.days (place_of month day) None), fault.NotPosted) ∷ []) =
+            day_passed
             (state_of t was) month day n _ opened (sym e) in
             rw (is, at, sym same) first
 

@@ -94,8 +94,8 @@ abbrev pub is_posted : Year → ℕ → ℕ → Bool
 is_posted y month day = is_some (slice_index_or y.days (place_of month day) None)
 
 -- first whether the account is opened, then what is wrong with the input, lowest number first, then
--- what else the state refuses, likewise; so of a late charge room for its line is tested before what
--- is owed
+-- what else the state refuses, likewise; so of a late charge the room for its line is tested before
+-- what is owed
 abbrev pub tests : Call → State → Tests
 tests (opening leap o) a =
     (not (is_opened a.year.standing), fault.OpenedAlready) ∷ opening_input leap o
@@ -141,8 +141,7 @@ year_after (payment amount) y = y
 year_after (settling t) y = record y { standing = settled (opening_of y.standing) t }
 year_after (late_charge k) y = y
 
--- the last line charged for after a call that was accepted; no other call than a late charge changes
--- it
+-- the last line charged for after a call that was accepted; a late charge alone changes it
 abbrev pub charged_after : Call → ℕ → ℕ
 charged_after (opening leap o) charged = charged
 charged_after (posting month day n) charged = charged

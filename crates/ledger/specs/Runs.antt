@@ -38,7 +38,7 @@ abbrev pub known_year : History → Year
 known_year [] = unknown_year
 known_year (e ∷ h) = if is_some e.refusal then known_year h else year_after e.call (known_year h)
 
--- a new account knows nothing and has written nothing
+-- a new account knows nothing, has written nothing and has charged for nothing
 abbrev pub new_state : State
 new_state = record { year = unknown_year; lines = []; charged = 0 }
 
@@ -100,7 +100,8 @@ pub record SettlesUp (s : Tariff) (y : Year) (lines : List Line) (o : Opening) (
 
 -- an account in the year as known, y, with the therms that it says are open
 -- known: its own year is the year as known
--- unopened: before the opening it is a new one, which knows nothing and has written nothing
+-- unopened: before the opening it is a new one, which knows nothing, has written nothing and has
+--   charged for nothing
 -- dated: each record stands at a day of the year, as the leap mark has it
 -- months: the lines under an item of a closed month sum to the item's price, which is no fault
 -- therms: what all monthly balancing lines carry and what is open make up the net therms of

@@ -8,9 +8,9 @@ use Rattle.ledger.specs.declared.late.TheConstants.{LATE_PER_MILLE, LEAST_LATE_C
 use Rattle.ledger.specs.declared.late.TheConstants.{MOST_CHARGED, MOST_UNCHARGED}
 
 -- the most lines, the most that can be paid at once, the month of lines of the year as a whole, a
--- payment's item and the last one, the share of a late charge, the least one, the most that can be
--- owed without one and for one, how many millicents make a cent, and the room for any printed form,
--- each with what was laid down
+-- payment's item and the last one, a late charge's per mille, the least one, up to how much is owed
+-- without one, the most that is owed for one, how many millicents make a cent, and the room for any
+-- printed form, each with what was laid down
 abbrev pub limits : List (ℕ × ℕ)
 limits =
     (MOST_LINES, 1024) ∷

@@ -1,12 +1,12 @@
 -- A journal that was played, and the whole text of it.
-use Rattle.std.proofs.Common.{◌≡◌, ℕ, List, [], ◌++◌, append_assoc, refl, subst}
+use Rattle.std.proofs.Common.{◌≡◌, ℕ, List, [], ◌++◌, append_assoc, subst}
 use Rattle.account.specs.declared.faults.Refusal.{Refusal}
 use Rattle.account.specs.Playing.{Played}
 use Rattle.ledger.specs.Calls.{State}
 use Rattle.gas.specs.Tariffs.{Tariff}
 use Rattle.ledger.specs.Runs.{new_state}
 use Rattle.report.specs.Late.{PrintsCharged, after_charges, charges_text}
-use Rattle.report.specs.Outputs.{PlaysInto, PrintsPlayed}
+use Rattle.report.specs.Outputs.{PlaysInto}
 use Rattle.report.specs.Tariffs.{fixed_tariff}
 use Rattle.report.specs.Rows.{account_text, refusals_text}
 
@@ -18,15 +18,8 @@ plays_into s bytes a b refusals tariff new played =
     subst (λ (x : State). Played fixed_tariff bytes x b refusals) new
     (subst (λ (t : Tariff). Played t bytes a b refusals) tariff played)
 
--- a text that was empty, and to which the refusals were written and then the account
-pub played_is_printed :
-    (bytes none some text : List ℕ) (b : State) (refusals : List Refusal) →
-    PlaysInto bytes b refusals → none ≡ [] → some ≡ none ++ refusals_text refusals →
-    text ≡ some ++ account_text b.lines → PrintsPlayed bytes text
-played_is_printed bytes none some text b refusals played empty first then =
-    (b, refusals, played, rw (then, first, empty) refl)
-
--- the same with late charges between the two, in the account that the journal made
+-- a text that was empty, and to which the refusals were written, then those of late charges, and then
+-- the account after them
 pub charged_is_printed :
     (numbers bytes none some more text : List ℕ) (s : Tariff) (b after : State)
     (refusals : List Refusal) →

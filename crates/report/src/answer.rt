@@ -1,6 +1,7 @@
 //! What a program answers to the words that it is called with.
 
-/// What a program answers to its words and its input (`docs/STATEMENTS.md`).
+/// What a program answers to its words and its input (`docs/ACCOUNT.md`,
+/// `docs/STATEMENTS.md`).
 #[derive(Debug, Drop)]
 pub struct Answer {
     /// What it writes on standard output.

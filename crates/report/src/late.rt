@@ -3,12 +3,10 @@ ghost use Rattle.std.specs.Prelude.{◌≡◌, ◌++◌, IfOk, OnOk, string_byte
 ghost use Rattle.std.specs.Option.{option_map};
 ghost use Rattle.ledger.specs.Calls.{late_charge};
 ghost use Rattle.ledger.specs.Runs.{refusal_by, state_after};
-ghost use Rattle.report.specs.Late.{AnswersLate, PrintsCharged, after_charges, charge_text};
-ghost use Rattle.report.specs.Late.{charges_text};
+ghost use Rattle.report.specs.Late.{AnswersLate, after_charges, charge_text, charges_text};
 
 use crate::answer::Answer;
-use crate::playing::play;
-use crate::printing::{too_long, write_account, write_refusals};
+use crate::printing::{played, too_long};
 use account::Account;
 use gas::Schedule;
 use std::alloc::Global;
@@ -33,8 +31,9 @@ fn write_charge<S: Schedule>(
     Ok(())
 }
 
-// Late charges in their order, with a row for each that is refused.
-fn write_charges<S: Schedule>(
+/// Makes late charges up to some line numbers in their order, with a row for each that is refused
+/// (`docs/ACCOUNT.md`).
+pub fn write_charges<S: Schedule>(
     text: &mut String,
     account: &mut Account<S>,
     numbers: &[usize],
@@ -51,18 +50,6 @@ fn write_charges<S: Schedule>(
     Ok(())
 }
 
-// What was refused of a journal and of late charges behind it, and the account after them.
-fn charged(alloc: Global, numbers: &[usize], journal: &[u8]) -> Result<String, fmt::Error>
-    ensures { IfOk result (λ text. PrintsCharged numbers.now journal.now (string_bytes text)) }
-{
-    let (mut account, refusals) = play(alloc, journal)?;
-    let mut text = String::new(alloc);
-    write_refusals(&mut text, &refusals)?;
-    write_charges(&mut text, &mut account, numbers)?;
-    write_account(&mut text, &account)?;
-    Ok(text)
-}
-
 /// All that `gasaccount late` answers for the line numbers up to which late charges are to be made,
 /// in their order, and for a journal, or none where the input was too long to be one
 /// (`docs/ACCOUNT.md`).
@@ -75,7 +62,7 @@ pub fn late_answer(
 {
     let (output, status) = match journal {
         None => (too_long(alloc)?, 1),
-        Some(bytes) => (charged(alloc, numbers, &bytes)?, 0),
+        Some(bytes) => (played(alloc, numbers, &bytes)?, 0),
     };
     Ok(Answer {
         output,

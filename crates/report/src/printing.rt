@@ -2,9 +2,11 @@
 ghost use Rattle.std.specs.Prelude.{◌≡◌, ◌++◌, OnOk, IfOk, codes, string_bytes, vec_items};
 ghost use Rattle.std.specs.Option.{option_map};
 ghost use Rattle.ledger.specs.Statements.{numbered};
-ghost use Rattle.report.specs.Outputs.{Prints, PrintsPlayed};
+ghost use Rattle.report.specs.Late.{PrintsCharged};
+ghost use Rattle.report.specs.Outputs.{Prints};
 ghost use Rattle.report.specs.Rows.{account_text, lines_text, refusals_text};
 
+use crate::late::write_charges;
 use crate::playing::play;
 use crate::rows::{LineRow, RefusalRow};
 use account::{Account, Refusal};
@@ -37,8 +39,8 @@ fn write_lines<S: Schedule>(text: &mut String, account: &Account<S>) -> Result<(
     Ok(())
 }
 
-/// The header, a row for each line, and their sum (`docs/ACCOUNT.md`).
-pub fn write_account<S: Schedule>(text: &mut String, account: &Account<S>) -> Result<(), fmt::Error>
+// The header, a row for each line, and their sum.
+fn write_account<S: Schedule>(text: &mut String, account: &Account<S>) -> Result<(), fmt::Error>
     ensures { OnOk result (string_bytes text.new ≡
         string_bytes text.old ++ account_text account.now.state.lines) }
 {
@@ -57,13 +59,15 @@ pub fn too_long(alloc: Global) -> Result<String, fmt::Error>
     Ok(text)
 }
 
-// What was refused of a journal, and the account that it made.
-fn played(alloc: Global, journal: &[u8]) -> Result<String, fmt::Error>
-    ensures { IfOk result (λ text. PrintsPlayed journal.now (string_bytes text)) }
+/// What was refused of a journal and of late charges that are made behind it, up to some line
+/// numbers in their order, and the account after them (`docs/ACCOUNT.md`).
+pub fn played(alloc: Global, numbers: &[usize], journal: &[u8]) -> Result<String, fmt::Error>
+    ensures { IfOk result (λ text. PrintsCharged numbers.now journal.now (string_bytes text)) }
 {
-    let (account, refusals) = play(alloc, journal)?;
+    let (mut account, refusals) = play(alloc, journal)?;
     let mut text = String::new(alloc);
     write_refusals(&mut text, &refusals)?;
+    write_charges(&mut text, &mut account, numbers)?;
     write_account(&mut text, &account)?;
     Ok(text)
 }
@@ -76,5 +80,5 @@ pub fn output(alloc: Global, journal: Option<Vec<u8>>) -> Result<String, fmt::Er
     let Some(bytes) = journal else {
         return too_long(alloc);
     };
-    played(alloc, &bytes)
+    played(alloc, &[], &bytes)
 }

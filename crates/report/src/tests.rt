@@ -54,7 +54,7 @@ fn of_journals(rt: HostRuntime) -> Result<(), Fail> {
     Ok(())
 }
 
-// Late charges behind a journal: what each adds, and where its refusal stands.
+// Late charges that are all refused: where their rows stand.
 #[test]
 fn of_late_charges(rt: HostRuntime) -> Result<(), Fail> {
     let alloc = rt.alloc();

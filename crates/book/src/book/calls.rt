@@ -114,9 +114,9 @@ impl Book {
 
     /// Writes a line with the charge on what is paid late, where the lines up to a number were due.
     /// Refused are, in this order, with 29 an account that has no line left, with 30 a number that
-    /// no line has, with 31 where 1,000,000 millicents or less are owed, or more than 6 × 10^14, and
-    /// with 32 a number that is not beyond the last one charged for. It is so on any tariff and by
-    /// any standing of an account that was opened (`docs/ACCOUNT.md`).
+    /// no line has, with 31 where 1,000,000 millicents or less are owed, or more than 6 × 10^14,
+    /// and with 32 a number that is not beyond the last one charged for. It is so on any tariff and
+    /// by any standing of an account that was opened (`docs/ACCOUNT.md`).
     pub fn charge_late(&mut self, number: usize) -> Result<(), AccountFault>
         ensures is { (s : Tariff) (t : Standing) → is_opened t ≡ true →
             answer_by (λ _. state_of t self.new) result ≡
