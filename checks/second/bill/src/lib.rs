@@ -12,6 +12,7 @@ pub mod command;
 pub mod day;
 pub mod input;
 pub mod journal;
+pub mod late;
 pub mod money;
 pub mod pipeline;
 pub mod refusal;

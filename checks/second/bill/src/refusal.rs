@@ -42,6 +42,12 @@ pub enum Refusal {
     Price(Fault),
     /// More lines than there is room for.
     Room,
+    /// A late charge up to a number that no line has.
+    NoLine,
+    /// A late charge where too little is owed, or too much.
+    Owed,
+    /// A late charge up to a line that is not beyond the last one charged for.
+    Charged,
 }
 
 impl Refusal {
@@ -66,6 +72,9 @@ impl Refusal {
             Refusal::InterimOpen => 27,
             Refusal::Price(_) => Fault::NUMBER,
             Refusal::Room => 29,
+            Refusal::NoLine => 30,
+            Refusal::Owed => 31,
+            Refusal::Charged => 32,
         }
     }
 }

@@ -22,17 +22,9 @@ fn played(journal: &[u8]) -> Option<(Account, Vec<RefusedRecord>)> {
     Some((account, refused))
 }
 
-/// What `lines` prints of a journal: the refusals, the lines and their sum.
+/// What `lines` prints of a journal: what `gasaccount` prints of it without a late charge.
 pub fn lines(journal: &[u8]) -> String {
-    let Some((account, refused)) = played(journal) else {
-        return String::from(TOO_LONG);
-    };
-    let rows = refused
-        .iter()
-        .map(refused_row)
-        .chain([String::from("no month item therms millicents\n")])
-        .chain((1..).zip(account.lines()).map(line_row));
-    rows.chain([format!("sum {}\n", account.total())]).collect()
+    late(journal, &[]).output
 }
 
 /// What `statements` prints of a journal behind its name: the refusals, and the printed form of
@@ -84,6 +76,33 @@ pub fn statement(journal: &[u8], month: u8, with_lines: bool) -> Printed {
             status: 0,
         },
         Err(refusal) => no_statement(refusal, &month.to_string()),
+    }
+}
+
+/// What `gasaccount` prints of a journal with late charges behind it, one up to each number: what
+/// is refused of the journal and of the late charges, the lines and their sum.
+pub fn late(journal: &[u8], numbers: &[usize]) -> Printed {
+    let Some((mut account, refused)) = played(journal) else {
+        return Printed {
+            output: String::from(TOO_LONG),
+            status: 1,
+            ..Printed::default()
+        };
+    };
+    let charge = |&number: &usize| {
+        let refusal = account.charge_late(number).err()?;
+        Some(format!("refused late {number} {}\n", refusal.number()))
+    };
+    let late: Vec<String> = numbers.iter().filter_map(charge).collect();
+    let rows = refused
+        .iter()
+        .map(refused_row)
+        .chain(late)
+        .chain([String::from("no month item therms millicents\n")])
+        .chain((1..).zip(account.lines()).map(line_row));
+    Printed {
+        output: rows.chain([format!("sum {}\n", account.total())]).collect(),
+        ..Printed::default()
     }
 }
 

@@ -1,4 +1,5 @@
-//! Reads a journal from standard input, and prints the statement of a month.
+//! Reads a journal from standard input, and prints the statement of a month, or the lines with late
+//! charges behind them.
 
 use std::env;
 use std::io::{self, Write};
@@ -9,12 +10,17 @@ use bill::report::{self, Printed};
 use bill::{input, statement};
 
 const HELP: &str = "\
-gasaccount reads a journal from standard input and prints the statement of a month: the sum of
-each item in cents, and the sum of all lines in millicents. What is refused of the journal is told
-on standard error.
+gasaccount statement reads a journal from standard input and prints the statement of a month: the
+sum of each item in cents, and the sum of all lines in millicents. What is refused of the journal is
+told on standard error.
 
   --lines  print the lines of the month first
   MONTH    0, November, to 11, October, or 12, the year as a whole
+
+gasaccount late reads a journal from standard input, charges for lines that were due and are paid
+late, and prints what is refused of the journal and of the late charges, all lines and their sum.
+
+  NUMBER   the number of the last line that was due; a late charge is made up to each in turn
 ";
 
 fn main() -> ExitCode {
@@ -33,26 +39,26 @@ fn main() -> ExitCode {
 }
 
 fn answer(words: &[String]) -> io::Result<Printed> {
-    let (word, with_lines) = match Command::read(words) {
-        Ok(Command::Statement { month, lines }) => (month, lines),
-        Ok(Command::Help) => {
-            return Ok(Printed {
-                output: format!("{USAGE}\n\n{HELP}"),
-                ..Printed::default()
-            })
-        }
-        Err(reason) => {
-            return Ok(Printed {
-                errors: format!("gasaccount: {reason}\n{USAGE}\n"),
-                status: 2,
-                ..Printed::default()
-            })
-        }
-    };
-    // A month that is refused is refused before the journal is read.
-    match statement::month(&word) {
+    match Command::read(words) {
+        Ok(Command::Statement { month, lines }) => of_month(&month, lines),
+        Ok(Command::Late(numbers)) => Ok(report::late(&input::standard()?, &numbers)),
+        Ok(Command::Help) => Ok(Printed {
+            output: format!("{USAGE}\n\n{HELP}"),
+            ..Printed::default()
+        }),
+        Err(reason) => Ok(Printed {
+            errors: format!("gasaccount: {reason}\n{USAGE}\n"),
+            status: 2,
+            ..Printed::default()
+        }),
+    }
+}
+
+/// A month that is refused is refused before the journal is read.
+fn of_month(word: &str, with_lines: bool) -> io::Result<Printed> {
+    match statement::month(word) {
         Ok(month) => Ok(report::statement(&input::standard()?, month, with_lines)),
-        Err(refusal) => Ok(report::no_statement(refusal, &word)),
+        Err(refusal) => Ok(report::no_statement(refusal, word)),
     }
 }
 

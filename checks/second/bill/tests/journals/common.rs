@@ -1,5 +1,8 @@
 //! Journals, written record by record.
 
+use bill::account::{Account, RefusedRecord};
+use bill::cases::account_schedule;
+
 /// The numbers of a day as a record has them.
 #[derive(Clone, Copy, Default)]
 pub struct Day {
@@ -105,11 +108,21 @@ impl Journal {
         self.printed().lines().map(String::from).collect()
     }
 
+    fn played(&self) -> (Account, Vec<RefusedRecord>) {
+        let mut account = Account::new(account_schedule());
+        let refused = account.play(&self.0);
+        (account, refused)
+    }
+
+    /// The account that it makes.
+    pub fn account(&self) -> Account {
+        self.played().0
+    }
+
     /// The numbers of the refused records and of their refusals.
     pub fn refused(&self) -> Vec<(usize, u8)> {
-        let mut account = bill::account::Account::new(bill::cases::account_schedule());
-        account
-            .play(&self.0)
+        let (_, refused) = self.played();
+        refused
             .iter()
             .map(|record| (record.number, record.refusal.number()))
             .collect()

@@ -6,6 +6,7 @@ use crate::common::{balanced, Day, Journal, DAYS};
 use bill::account::{Account, Heading};
 use bill::cases::account_schedule;
 use bill::journal::{Call, Reader};
+use bill::refusal::Refusal;
 use bill::schedule::{Item, Schedule};
 
 /// A plain generator of numbers that look random.
@@ -119,21 +120,36 @@ fn check_law(account: &Account, schedule: &Schedule) {
     }
 }
 
+/// Makes a call and answers how many were accepted, one or none. No line goes by it, and a call
+/// that is refused leaves the account as it was.
+fn called(account: &mut Account, call: impl FnOnce(&mut Account) -> Result<(), Refusal>) -> usize {
+    let before = account.clone();
+    match call(account) {
+        Err(_) => {
+            assert_eq!(*account, before);
+            0
+        }
+        Ok(()) => {
+            assert!(account.lines().starts_with(before.lines()));
+            1
+        }
+    }
+}
+
 #[test]
 fn the_law_holds_after_each_call() {
     let schedule = account_schedule();
-    let mut settled = 0;
+    let (mut settled, mut charged) = (0, 0);
     for seed in 0..12 {
         let journal = Draws(seed).journal();
         let mut account = Account::new(schedule.clone());
+        let mut draws = Draws(seed + 1_000);
         for call in Reader::new(&journal.0) {
-            let before = account.clone();
-            let answer = account.enter(call.unwrap());
-            match answer {
-                Err(_) => assert_eq!(account, before),
-                Ok(()) => assert!(account.lines().starts_with(before.lines())),
-            }
+            called(&mut account, |account| account.enter(call.unwrap()));
             if !matches!(call, Ok(Call::Post(_))) {
+                check_law(&account, &schedule);
+                let number = draws.below(account.lines().len() as u32 + 2) as usize;
+                charged += called(&mut account, |account| account.charge_late(number));
                 check_law(&account, &schedule);
             }
         }
@@ -141,6 +157,7 @@ fn the_law_holds_after_each_call() {
         assert!(account.lines().len() > 100);
     }
     assert!(settled > 3);
+    assert!(charged > 100);
 }
 
 #[test]

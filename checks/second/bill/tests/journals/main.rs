@@ -1,6 +1,7 @@
 //! Whole journals, played.
 
 mod common;
+mod late;
 mod law;
 mod lines;
 mod statements;

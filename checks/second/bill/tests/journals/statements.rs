@@ -1,19 +1,11 @@
 //! What `statements` and `gasaccount` print, by journals whose figures are worked out by hand.
 
-use bill::account::Account;
-use bill::cases::account_schedule;
 use bill::refusal::Refusal;
 use bill::report::{self, Printed};
 
 use crate::common::{balanced, worked_november, Day, Journal, DAYS};
 
 impl Journal {
-    fn account(&self) -> Account {
-        let mut account = Account::new(account_schedule());
-        account.play(&self.0);
-        account
-    }
-
     /// The printed form of a month.
     fn form(&self, month: u8) -> String {
         self.account().statement(month).unwrap().printed()
