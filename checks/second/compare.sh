@@ -1,6 +1,7 @@
 #!/usr/bin/env bash
 # Builds the proved programs and the second ones and compares what they print: `prices`, and on generated journals
-# `lines`, `statements` of all months, and one call of `gasaccount` on each. Each output and exit status is compared to
+# `lines`, `statements` of all months, and two calls of `gasaccount` on each, one for a statement and one for late
+# charges, for which payments may be put behind the journal. Each output and exit status is compared to
 # the byte, and of `gasaccount` standard error too.
 #
 #     checks/second/compare.sh [COUNT [SEED]]

@@ -1,11 +1,20 @@
 //! What a program printed of a journal, read again: its refusals and lines.
 
 use std::collections::BTreeMap;
+use std::fmt::Display;
+use std::str::FromStr;
 
 /// A row `refused k n`.
 #[derive(Clone, Copy, Debug, PartialEq, Eq)]
 pub struct Refusal {
     pub record: usize,
+    pub number: u8,
+}
+
+/// A row `refused late K n`.
+#[derive(Clone, Copy, Debug, PartialEq, Eq)]
+pub struct LateRefusal {
+    pub line: u64,
     pub number: u8,
 }
 
@@ -34,25 +43,37 @@ impl Answer {
     /// Reads the output, and says why where it is none. Numbers, order and
     /// sum are looked at too: two programs may agree on nonsense.
     pub fn read(output: &[u8]) -> Result<Answer, String> {
+        match Answer::read_with_late(output)? {
+            (answer, late) if late.is_empty() => Ok(answer),
+            _ => Err("refuses late charges".to_string()),
+        }
+    }
+
+    /// Reads an output likewise in which refusals of late charges stand behind
+    /// those of the journal.
+    pub fn read_with_late(output: &[u8]) -> Result<(Answer, Vec<LateRefusal>), String> {
         let text = std::str::from_utf8(output).map_err(|_| "is no text".to_string())?;
         if text == "too long\n" {
-            return Ok(Answer::TooLong);
+            return Ok((Answer::TooLong, Vec::new()));
         }
         let Some(text) = text.strip_suffix('\n') else {
             return Err("is empty or does not end in a newline".to_string());
         };
         let mut rows = text.split('\n');
         let mut refusals: Vec<Refusal> = Vec::new();
+        let mut late = Vec::new();
         loop {
             let row = rows.next().ok_or("has no header")?;
             if row == HEADER {
                 break;
             }
+            if row.starts_with("refused late ") {
+                late.push(read_late_refusal(row)?);
+                continue;
+            }
             let refusal = read_refusal(row)?;
-            if refusals
-                .last()
-                .is_some_and(|last| last.record >= refusal.record)
-            {
+            let last = refusals.last().map_or(0, |last| last.record);
+            if last >= refusal.record || !late.is_empty() {
                 return Err(format!("has a refusal out of order: {row}"));
             }
             refusals.push(refusal);
@@ -62,7 +83,7 @@ impl Answer {
         let sum = loop {
             let row = rows.next().ok_or("has no sum")?;
             if let Some(sum) = row.strip_prefix("sum ") {
-                break number(sum, row)?;
+                break exact(sum, row)?;
             }
             let line = read_line(row, lines.len() + 1)?;
             total += line.millicents;
@@ -74,11 +95,12 @@ impl Answer {
         if sum != total {
             return Err(format!("has sum {sum}, and lines that add up to {total}"));
         }
-        Ok(Answer::Played {
+        let answer = Answer::Played {
             refusals,
             lines,
             sum,
-        })
+        };
+        Ok((answer, late))
     }
 
     pub fn refusals(&self) -> &[Refusal] {
@@ -92,6 +114,14 @@ impl Answer {
         match self {
             Answer::TooLong => &[],
             Answer::Played { lines, .. } => lines,
+        }
+    }
+
+    /// The sum of all lines.
+    pub fn sum(&self) -> i128 {
+        match self {
+            Answer::TooLong => 0,
+            Answer::Played { sum, .. } => *sum,
         }
     }
 
@@ -109,10 +139,21 @@ pub(crate) fn read_refusal(row: &str) -> Result<Refusal, String> {
     let fields: Vec<&str> = row.split(' ').collect();
     match fields[..] {
         ["refused", record, refused] => Ok(Refusal {
-            record: number(record, row)?,
-            number: number(refused, row)?,
+            record: exact(record, row)?,
+            number: exact(refused, row)?,
         }),
         _ => Err(format!("has a strange row before the header: {row}")),
+    }
+}
+
+fn read_late_refusal(row: &str) -> Result<LateRefusal, String> {
+    let fields: Vec<&str> = row.split(' ').collect();
+    match fields[..] {
+        ["refused", "late", line, refused] => Ok(LateRefusal {
+            line: exact(line, row)?,
+            number: exact(refused, row)?,
+        }),
+        _ => Err(format!("has a strange refusal of a late charge: {row}")),
     }
 }
 
@@ -120,19 +161,21 @@ fn read_line(row: &str, expected: usize) -> Result<Line, String> {
     let fields: Vec<&str> = row.split(' ').collect();
     match fields[..] {
         [no, month, item, therms, millicents] if no == expected.to_string() => Ok(Line {
-            month: number(month, row)?,
-            item: number(item, row)?,
-            therms: number(therms, row)?,
-            millicents: number(millicents, row)?,
+            month: exact(month, row)?,
+            item: exact(item, row)?,
+            therms: exact(therms, row)?,
+            millicents: exact(millicents, row)?,
         }),
         _ => Err(format!("has a strange row for line {expected}: {row}")),
     }
 }
 
-fn number<T: std::str::FromStr>(field: &str, row: &str) -> Result<T, String> {
-    field
-        .parse()
-        .map_err(|_| format!("has no number in a row: {row}"))
+/// A number just as it is written: `-0` is none, nor is `007`.
+pub(crate) fn exact<T: FromStr + Display>(field: &str, row: &str) -> Result<T, String> {
+    match field.parse::<T>() {
+        Ok(number) if number.to_string() == field => Ok(number),
+        _ => Err(format!("has no number in a row: {row}")),
+    }
 }
 
 #[cfg(test)]

@@ -4,6 +4,8 @@ use crate::answer::Answer;
 use crate::asking::Asked;
 use crate::crew::work_through;
 use crate::journal::{journal, kind_of, Kind};
+use crate::late::{Charges, Late, Payments};
+use crate::records::read;
 use crate::run::{find, Call, Desk, End, Run};
 use crate::sheet::{Form, Sheet};
 use std::collections::BTreeMap;
@@ -103,6 +105,8 @@ struct Runs {
     /// The program and its arguments, in words.
     call: String,
     paths: [PathBuf; 2],
+    /// The journal on standard input, where there was one.
+    input: Option<Vec<u8>>,
     one: Run,
     two: Run,
 }
@@ -113,14 +117,14 @@ impl Makers {
         desk: &Desk,
         program: fn(&Programs) -> &Path,
         arguments: &[String],
-        input: Option<&str>,
+        input: Option<&Laid>,
     ) -> Result<Runs, String> {
         let paths = [program(&self.one), program(&self.two)];
         let run = |program: &Path| {
             desk.run(Call {
                 program,
                 arguments,
-                input,
+                input: input.map(|laid| laid.name.as_str()),
             })
         };
         let name = paths[1].file_name().unwrap_or_default().to_string_lossy();
@@ -128,6 +132,7 @@ impl Makers {
         Ok(Runs {
             call: format!("{name}{}", words.collect::<String>()),
             paths: paths.map(Path::to_path_buf),
+            input: input.map(|laid| laid.journal.clone()),
             one: run(paths[0])?,
             two: run(paths[1])?,
         })
@@ -168,9 +173,10 @@ struct Shown {
     /// The rows of all statements.
     rows: usize,
     call: Answered,
+    late: LateCall,
 }
 
-/// How a call of `gasaccount` was answered.
+/// How a call of `gasaccount` for a statement was answered.
 enum Answered {
     WithLines,
     WithoutLines,
@@ -178,8 +184,16 @@ enum Answered {
     RefusedTooLong,
 }
 
+/// A call of `gasaccount` for late charges.
+struct LateCall {
+    /// Whether payments were put behind the journal.
+    paid: bool,
+    too_long: bool,
+    charges: Charges,
+}
+
 impl Shown {
-    fn by(answer: &Answer, sheet: &Sheet, asked: &Asked) -> Shown {
+    fn by(answer: &Answer, sheet: &Sheet, asked: &Asked, late: LateCall) -> Shown {
         let too_long = *answer == Answer::TooLong;
         Shown {
             refused: answer.refused(),
@@ -194,6 +208,7 @@ impl Shown {
                 Some(_) if asked.has_lines() => Answered::WithLines,
                 Some(_) => Answered::WithoutLines,
             },
+            late,
         }
     }
 }
@@ -230,6 +245,37 @@ struct Laid {
     number: u64,
     name: String,
     journal: Vec<u8>,
+}
+
+impl Laid {
+    fn lay(&self, desk: &Desk) -> Result<(), String> {
+        let Laid { name, journal, .. } = self;
+        desk.lay(name, journal)
+            .map_err(|error| format!("{name}: {error}"))
+    }
+
+    fn take(&self, desk: &Desk) -> Result<(), String> {
+        let name = &self.name;
+        desk.take(name).map_err(|error| format!("{name}: {error}"))
+    }
+}
+
+/// What `lines` prints of a journal.
+fn lines(desk: &Desk, makers: &Makers, laid: &Laid) -> Result<Answer, Discord> {
+    let runs = makers.run(desk, |programs| &programs.lines, &[], Some(laid))?;
+    agreed(&PRINTS, runs, |run| Answer::read(&run.output))
+}
+
+/// What both answer to the same words about a journal, as `read` has it.
+fn gasaccount<T>(
+    desk: &Desk,
+    makers: &Makers,
+    laid: &Laid,
+    words: &[String],
+    read: impl FnOnce(&Run) -> Result<T, String>,
+) -> Result<T, Discord> {
+    let runs = makers.run(desk, |programs| &programs.gasaccount, words, Some(laid))?;
+    agreed(&ANSWERS, runs, read)
 }
 
 /// What `statements` makes of the journals in one call. Where there is no
@@ -330,9 +376,8 @@ impl Comparison {
                 }
             })
             .collect();
-        for Laid { name, journal, .. } in &laid {
-            desk.lay(name, journal)
-                .map_err(|error| format!("{name}: {error}"))?;
+        for laid in &laid {
+            laid.lay(desk)?;
         }
         let mut trials = Vec::new();
         for (laid, sheet) in laid.iter().zip(sheets(desk, makers, &laid)?) {
@@ -352,15 +397,15 @@ impl Comparison {
                 verdict,
             });
         }
-        for Laid { name, .. } in &laid {
-            desk.take(name)
-                .map_err(|error| format!("{name}: {error}"))?;
+        for laid in &laid {
+            laid.take(desk)?;
         }
         Ok(trials)
     }
 
-    /// `lines` on a journal, what `statements` made of it, and one call of
-    /// `gasaccount`. The first of them that makes a difference is told.
+    /// `lines` on a journal, what `statements` made of it, and two calls of
+    /// `gasaccount`, for a statement and for late charges. The first of them
+    /// that makes a difference is told.
     fn try_one(
         &self,
         desk: &Desk,
@@ -368,18 +413,60 @@ impl Comparison {
         laid: &Laid,
         sheet: Result<Sheet, Discord>,
     ) -> Result<Shown, Discord> {
-        let input = Some(laid.name.as_str());
-        let runs = makers.run(desk, |programs| &programs.lines, &[], input)?;
-        let answer = agreed(&PRINTS, runs, |run| Answer::read(&run.output))?;
+        let answer = lines(desk, makers, laid)?;
         let sheet = sheet?;
         sheet.check(&answer).map_err(|reason| {
             Discord::Trouble(format!("statements: the output of both {reason}"))
         })?;
         let asked = Asked::of(self.seed, laid.number);
-        let arguments = asked.arguments();
-        let runs = makers.run(desk, |programs| &programs.gasaccount, &arguments, input)?;
-        agreed(&ANSWERS, runs, |run| asked.check(run, &answer, &sheet))?;
-        Ok(Shown::by(&answer, &sheet, &asked))
+        gasaccount(desk, makers, laid, &asked.arguments(), |run| {
+            asked.check(run, &answer, &sheet)
+        })?;
+        let late = self.try_late(desk, makers, laid, &answer)?;
+        Ok(Shown::by(&answer, &sheet, &asked, late))
+    }
+
+    /// A call for late charges, behind payments where the question has some.
+    /// These are of the journal as `lines` prints it with the payments.
+    fn try_late(
+        &self,
+        desk: &Desk,
+        makers: &Makers,
+        laid: &Laid,
+        answer: &Answer,
+    ) -> Result<LateCall, Discord> {
+        let Some(payments) = Payments::of(self.seed, laid.number, answer) else {
+            return self.charge(desk, makers, laid, answer, None);
+        };
+        let paid = Laid {
+            number: laid.number,
+            name: format!("{}.paid", laid.name),
+            journal: payments.behind(&laid.journal),
+        };
+        paid.lay(desk)?;
+        let answer = lines(desk, makers, &paid)?;
+        let late = self.charge(desk, makers, &paid, &answer, Some(&payments))?;
+        paid.take(desk)?;
+        Ok(late)
+    }
+
+    fn charge(
+        &self,
+        desk: &Desk,
+        makers: &Makers,
+        laid: &Laid,
+        answer: &Answer,
+        payments: Option<&Payments>,
+    ) -> Result<LateCall, Discord> {
+        let late = Late::of(self.seed, laid.number, answer, payments);
+        let charges = gasaccount(desk, makers, laid, &late.arguments(), |run| {
+            late.check(run, answer)
+        })?;
+        Ok(LateCall {
+            paid: payments.is_some(),
+            too_long: *answer == Answer::TooLong,
+            charges,
+        })
     }
 
     fn save_lowest(&self, laid: &Laid, runs: &Runs, lowest: &Mutex<Option<u64>>) -> io::Result<()> {
@@ -392,27 +479,28 @@ impl Comparison {
     }
 
     fn save(&self, laid: &Laid, runs: &Runs) -> io::Result<()> {
-        let Laid {
-            number, journal, ..
-        } = laid;
+        let number = laid.number;
         let Runs {
             call,
             paths,
+            input,
             one,
             two,
         } = runs;
+        let input = input.as_ref().unwrap_or(&laid.journal);
         fs::create_dir_all(&self.save)?;
-        fs::write(self.save.join("journal"), journal)?;
+        fs::write(self.save.join("journal"), input)?;
         for (name, run) in [("one", one), ("two", two)] {
             fs::write(self.save.join(name), &run.output)?;
             fs::write(self.save.join(format!("{name}.stderr")), &run.errors)?;
         }
         let about = format!(
-            "seed {}, number {number}, kind {}\nmade again by: {}\ncall: {call}\n\
+            "seed {}, number {number}, kind {}\nmade again by: {}{}\ncall: {call}\n\
              one: {} ({}) {}\ntwo: {} ({}) {}\n{}\n",
             self.seed,
-            kind_of(self.seed, *number).name(),
-            self.recipe(*number),
+            kind_of(self.seed, number).name(),
+            self.recipe(number),
+            behind(&laid.journal, input),
             paths[0].display(),
             one.end,
             one.complaint(),
@@ -464,6 +552,14 @@ impl Comparison {
     }
 }
 
+/// The payments that an input has behind the journal, in words.
+fn behind(journal: &[u8], input: &[u8]) -> String {
+    match input.strip_prefix(journal).map(read) {
+        Some(payments) if !payments.is_empty() => format!(", and behind it {payments:?}"),
+        _ => String::new(),
+    }
+}
+
 /// Where two runs part: in their outputs, or else on standard error.
 fn parting(one: &Run, two: &Run) -> String {
     match first_difference(&one.output, &two.output) {
@@ -498,25 +594,85 @@ fn first_difference(one: &[u8], two: &[u8]) -> Option<String> {
     })
 }
 
+/// Of each refusal number how often it came, and in how many answers.
+#[derive(Default)]
+struct Refused(BTreeMap<u8, (u64, u64)>);
+
+impl Refused {
+    fn count(&mut self, refused: &BTreeMap<u8, u64>) {
+        for (&refusal, &rows) in refused {
+            let entry = self.0.entry(refusal).or_insert((0, 0));
+            entry.0 += rows;
+            entry.1 += 1;
+        }
+    }
+
+    /// The rows of a table, for answers by this name.
+    fn table(&self, answers: &str) -> String {
+        let rows = self.0.iter();
+        let rows =
+            rows.map(|(number, (rows, some))| format!("  {number:>7} {rows:>8} {some:>9}\n"));
+        [format!("  refused     rows {answers:>9}\n")]
+            .into_iter()
+            .chain(rows)
+            .collect()
+    }
+}
+
+/// The calls of `gasaccount` for late charges.
+#[derive(Default)]
+struct LateCalls {
+    calls: u64,
+    paid: u64,
+    too_long: u64,
+    accepted: u64,
+    least: u64,
+    refused: Refused,
+}
+
+impl LateCalls {
+    fn count(&mut self, late: &LateCall) {
+        self.calls += 1;
+        self.paid += u64::from(late.paid);
+        self.too_long += u64::from(late.too_long);
+        self.accepted += late.charges.accepted;
+        self.least += late.charges.least;
+        self.refused.count(&late.charges.refused);
+    }
+
+    fn table(&self) -> String {
+        format!(
+            "  late calls {}, behind payments {}, too long {}\n  \
+             late charges accepted {}, of which the least one {}\n{}",
+            self.calls,
+            self.paid,
+            self.too_long,
+            self.accepted,
+            self.least,
+            self.refused.table("calls")
+        )
+    }
+}
+
 #[derive(Default)]
 struct Tally {
     agreed: u64,
     differed: u64,
     trouble: u64,
     kinds: BTreeMap<Kind, u64>,
-    /// Of each refusal number the rows, and the journals that have some.
-    refused: BTreeMap<u8, (u64, u64)>,
+    refused: Refused,
     lines: u64,
     refunds: u64,
     too_long: u64,
     statements: u64,
     rows: u64,
-    /// Of the calls of `gasaccount`, those that were answered, without lines
+    /// Of the calls of `gasaccount` for statements, those that were answered, without lines
     /// and with, and those that were refused, for the month and as too long.
     plain: u64,
     with_lines: u64,
     refused_months: u64,
     refused_too_long: u64,
+    late: LateCalls,
     /// The journals with the most lines: how many, and the journal's number.
     longest: Vec<(usize, u64)>,
     first_differing: Option<u64>,
@@ -543,11 +699,7 @@ impl Tally {
 
     fn count_shown(&mut self, number: u64, shown: &Shown) {
         self.agreed += 1;
-        for (&refusal, &rows) in &shown.refused {
-            let entry = self.refused.entry(refusal).or_insert((0, 0));
-            entry.0 += rows;
-            entry.1 += 1;
-        }
+        self.refused.count(&shown.refused);
         self.lines += shown.lines as u64;
         self.too_long += u64::from(shown.too_long);
         self.refunds += u64::from(shown.refund);
@@ -561,6 +713,7 @@ impl Tally {
             Answered::RefusedTooLong => &mut self.refused_too_long,
         };
         *calls += 1;
+        self.late.count(&shown.late);
     }
 
     fn table(&mut self) -> String {
@@ -575,10 +728,7 @@ impl Tally {
             let _ = writeln!(text, "  {:<12} {count:>8}", kind.name());
         }
         let _ = writeln!(text, "of those that agreed:");
-        let _ = writeln!(text, "  refused     rows  journals");
-        for (number, (rows, journals)) in &self.refused {
-            let _ = writeln!(text, "  {number:>7} {rows:>8} {journals:>9}");
-        }
+        text.push_str(&self.refused.table("journals"));
         let _ = writeln!(text, "  too long {}", self.too_long);
         let _ = writeln!(text, "  lines in all {}", self.lines);
         let _ = writeln!(text, "  settled with refund lines {}", self.refunds);
@@ -598,7 +748,11 @@ impl Tally {
         let _ = writeln!(text, "  rows of statements {}", self.rows);
         let answered = self.plain + self.with_lines;
         let refused = self.refused_months + self.refused_too_long;
-        let _ = writeln!(text, "  gasaccount calls {}", answered + refused);
+        let _ = writeln!(
+            text,
+            "  gasaccount calls for statements {}",
+            answered + refused
+        );
         let _ = writeln!(
             text,
             "    answered {answered}, with lines {}",
@@ -609,6 +763,7 @@ impl Tally {
             "    refused {refused}, for the month {}, as too long {}",
             self.refused_months, self.refused_too_long
         );
+        text.push_str(&self.late.table());
         text
     }
 }
@@ -616,6 +771,7 @@ impl Tally {
 #[cfg(test)]
 mod tests {
     use super::*;
+    use crate::records::Record;
     use std::os::unix::fs::PermissionsExt;
     use std::process;
 
@@ -686,6 +842,11 @@ mod tests {
         assert!(matches!(of_gasaccount(&failed, &late), Verdict::Trouble(_)));
     }
 
+    /// A command that prints a text.
+    fn printf(text: &str) -> String {
+        format!("printf '{}'", text.replace('\n', "\\n"))
+    }
+
     /// A folder with programs that stand in for those that are compared.
     struct StandIns(PathBuf);
 
@@ -708,6 +869,10 @@ mod tests {
             let months = (0..=12).map(|month| format!("month {month}\\ntotal 0\\n"));
             let months: String = months.collect();
             let row = "refused 3: a statement is of a month from 0 to 12, not of";
+            // Of an account without lines each late charge is refused.
+            let numbers = r"sed -n 's/^+*0*\([0-9][0-9]*\)$/refused late \1 20/p'";
+            let none = printf(NO_LINES);
+            let late = format!("shift; printf '%s\\n' \"$@\" | {numbers}; {none}; exit");
             Programs {
                 lines: self.prints("none", NO_LINES),
                 statements: self.script(
@@ -717,7 +882,8 @@ mod tests {
                 gasaccount: self.script(
                     "gasaccount",
                     &format!(
-                        "cat > /dev/null; month=$2; [ \"$month\" = --lines ] && month=$3\n\
+                        "cat > /dev/null\nif [ $1 = late ]; then\n{late}\nfi\n\
+                         month=$2; [ \"$month\" = --lines ] && month=$3\n\
                          case \"$month\" in\n[0-9]|1[0-2]|007|012) echo total 0;;\n\
                          *) echo \"{row} $month\" >&2; exit 1;;\nesac"
                     ),
@@ -735,8 +901,7 @@ mod tests {
 
         /// A program that takes its journal and prints the same of each.
         fn prints(&self, name: &str, text: &str) -> PathBuf {
-            let text = text.replace('\n', "\\n");
-            self.script(name, &format!("cat > /dev/null; printf '{text}'"))
+            self.script(name, &format!("cat > /dev/null; {}", printf(text)))
         }
 
         fn compare(&self, one: &Programs, two: &Programs) -> Result<Outcome, String> {
@@ -827,5 +992,37 @@ mod tests {
         assert!(folder.saved("two.stderr").starts_with("hello\n"));
         // Both alike, but no answer to what was asked.
         assert_eq!(folder.compare(&talks, &talks), Ok(Outcome::Trouble));
+    }
+
+    #[test]
+    fn another_word_of_late_charges_is_found() {
+        let folder = StandIns::new("late");
+        let empty = folder.empty();
+        let with = |name: &str, script: &str| Programs {
+            gasaccount: folder.before(&empty.gasaccount, name, script),
+            ..empty.clone()
+        };
+        for (name, script) in [
+            ("talks", "echo hello >&2"),
+            ("more", "echo refused late 5 30"),
+            ("other", "shift; set -- late 5 \"$@\""),
+        ] {
+            let other = with(name, &format!("if [ $1 = late ]; then {script}; fi"));
+            assert_eq!(folder.compare(&empty, &other), Ok(Outcome::Differed));
+            let about = folder.saved("about");
+            assert!(
+                about.contains(&format!("\ncall: {name} \"late\" ")),
+                "{about}"
+            );
+            assert_eq!(folder.compare(&other, &other), Ok(Outcome::Trouble));
+        }
+    }
+
+    #[test]
+    fn payments_behind_a_journal_are_told() {
+        let journal = journal(1, 5);
+        assert_eq!(behind(&journal, &journal), "");
+        let paid = [journal.clone(), Record::Pay(7).bytes()].concat();
+        assert_eq!(behind(&journal, &paid), ", and behind it [Pay(7)]");
     }
 }

@@ -9,6 +9,7 @@ pub mod choose;
 pub mod compare;
 pub mod crew;
 pub mod journal;
+pub mod late;
 mod makers;
 pub mod random;
 pub mod records;
