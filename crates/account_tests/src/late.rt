@@ -71,8 +71,9 @@ fn paying(amount: i64) -> Record {
 }
 
 // What is owed up to the first line, and the charge on it. Just half a cent is 151.5 and 154.5
-// cents; 100.5 is the first half beyond the least charge.
-const OWED: [(i64, Result<i64, u8>); 12] = [
+// cents; 100.5 is the first half beyond the least charge. 150.49995 cents are 150, and not 151 by
+// way of 150,500 millicents.
+const OWED: [(i64, Result<i64, u8>); 13] = [
     (BASIC - 10_000_000_000_000, Err(31)),
     (-1, Err(31)),
     (0, Err(31)),
@@ -80,6 +81,7 @@ const OWED: [(i64, Result<i64, u8>); 12] = [
     (1_000_001, Ok(100_000)),
     (6_699_999, Ok(100_000)),
     (6_700_000, Ok(101_000)),
+    (10_033_330, Ok(150_000)),
     (10_099_999, Ok(151_000)),
     (10_100_000, Ok(152_000)),
     (10_299_999, Ok(154_000)),
