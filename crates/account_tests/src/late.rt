@@ -9,6 +9,7 @@ use gas::Schedule;
 use journal::Record;
 use ledger::MOST_LINES;
 use riders::{Interim, Rider};
+use std::ops::Range;
 use std::process::Abort;
 use std::test::Fail;
 
@@ -22,19 +23,17 @@ fn charge<S: Schedule>(
     account: &mut Account<S>,
     number: usize,
 ) -> Result<i64, u8> {
-    let (count, total, open) = answers(account);
+    let before = answers(account);
     if let Err(fault) = account.charge_late(number) {
-        assert_eq!(rt; answers(account), (count, total, open), "{number}");
+        assert_eq!(rt; answers(account), before, "{number}");
         return Err(fault.number());
     }
-    assert_eq!(rt; account.line_count(), count + 1, "{number}");
-    let (month, item, therms, money) = written(account, count + 1)?;
+    let (count, total, open) = answers(account);
+    assert_eq!(rt; count.wrapping_sub(1), before.0, "{number}");
+    let (month, item, therms, money) = written(account, count)?;
     assert_eq!(rt; (month, item, therms), (12, 14, 0), "{number}");
-    assert_eq!(rt;
-        answers(account),
-        (count + 1, total + money, open),
-        "{number}"
-    );
+    let others = (before.0, total.wrapping_sub(money), open);
+    assert_eq!(rt; others, before, "{number}");
     Ok(money)
 }
 
@@ -49,9 +48,9 @@ fn charges<S: Schedule>(
     }
 }
 
-// Posts and closes a month of so many days on which nothing flowed.
-fn close_idle<S: Schedule>(rt: &impl Abort, account: &mut Account<S>, month: u8, days: u8) {
-    post(rt, account, 1..days + 1, even(month, 0, 0));
+// Posts some days on which nothing flowed, and closes their month.
+fn close_idle<S: Schedule>(rt: &impl Abort, account: &mut Account<S>, month: u8, days: Range<u8>) {
+    post(rt, account, days, even(month, 0, 0));
     accepts(rt, account, closing(month));
 }
 
@@ -59,41 +58,40 @@ fn close_idle<S: Schedule>(rt: &impl Abort, account: &mut Account<S>, month: u8,
 fn idle_november(rt: &impl Abort) -> Account<Small> {
     let mut account = Account::new(SMALL);
     accepts(rt, &mut account, OPEN);
-    close_idle(rt, &mut account, 0, 30);
+    close_idle(rt, &mut account, 0, 1..31);
     assert_eq!(rt; answers(&account), (1, BASIC, 0));
     account
 }
 
-fn paying(amount: i64) -> Record {
-    Record::Pay {
-        amount: amount as u64,
-    }
+fn paying(amount: u64) -> Record {
+    Record::Pay { amount }
 }
 
-// What is owed up to the first line, and the charge on it. Just half a cent is 151.5 and 154.5
-// cents; 100.5 is the first half beyond the least charge. 150.49995 cents are 150, and not 151 by
-// way of 150,500 millicents.
-const OWED: [(i64, Result<i64, u8>); 13] = [
-    (BASIC - 10_000_000_000_000, Err(31)),
-    (-1, Err(31)),
-    (0, Err(31)),
-    (1_000_000, Err(31)),
-    (1_000_001, Ok(100_000)),
-    (6_699_999, Ok(100_000)),
-    (6_700_000, Ok(101_000)),
-    (10_033_330, Ok(150_000)),
-    (10_099_999, Ok(151_000)),
-    (10_100_000, Ok(152_000)),
-    (10_299_999, Ok(154_000)),
-    (10_300_000, Ok(155_000)),
-    (15_549_999, Ok(233_000)),
+// What is owed up to the first line, by what is paid of it, and the charge. Just half a cent is
+// 151.5 and 154.5 cents; 100.5 is the first half beyond the least charge. 150.49995 cents are 150,
+// and not 151 by way of 150,500 millicents.
+const OWED: [(i64, u64, Result<i64, u8>); 13] = [
+    (-9_999_984_450_000, 10_000_000_000_000, Err(31)),
+    (-1, 15_550_001, Err(31)),
+    (0, 15_550_000, Err(31)),
+    (1_000_000, 14_550_000, Err(31)),
+    (1_000_001, 14_549_999, Ok(100_000)),
+    (6_699_999, 8_850_001, Ok(100_000)),
+    (6_700_000, 8_850_000, Ok(101_000)),
+    (10_033_330, 5_516_670, Ok(150_000)),
+    (10_099_999, 5_450_001, Ok(151_000)),
+    (10_100_000, 5_450_000, Ok(152_000)),
+    (10_299_999, 5_250_001, Ok(154_000)),
+    (10_300_000, 5_250_000, Ok(155_000)),
+    (15_549_999, 1, Ok(233_000)),
 ];
 
 #[test]
 fn of_what_is_owed(rt: HostRuntime) {
-    for (owed, answer) in OWED {
+    for (owed, paid, answer) in OWED {
         let mut account = idle_november(&rt);
-        accepts(&rt, &mut account, paying(BASIC - owed));
+        accepts(&rt, &mut account, paying(paid));
+        assert_eq!(rt; account.total().amount, owed);
         assert_eq!(rt; charge(&rt, &mut account, 1), answer, "{owed}");
     }
 }
@@ -112,10 +110,10 @@ fn of_the_most_that_can_be_owed(rt: HostRuntime) {
     let most = 600_000_000_000_000;
     for _ in 0..MOST_LINES {
         let count = account.line_count();
-        let over = account.total().amount - most;
+        let over = account.total().amount.wrapping_sub(most);
         if over > 0 {
             assert_eq!(rt; charge(&rt, &mut account, count), Err(31));
-            accepts(&rt, &mut account, paying(over - 1));
+            accepts(&rt, &mut account, paying((over - 1) as u64));
             assert_eq!(rt; charge(&rt, &mut account, count), Err(31));
             accepts(&rt, &mut account, paying(1));
             assert_eq!(rt; charge(&rt, &mut account, count), Ok(9_000_000_000_000));
@@ -135,7 +133,7 @@ fn of_payments_and_late_charges(rt: HostRuntime) {
     let mut account = idle_november(&rt);
     accepts(&rt, &mut account, paying(1_000_000));
     accepts(&rt, &mut account, paying(550_000));
-    close_idle(&rt, &mut account, 1, 31);
+    close_idle(&rt, &mut account, 1, 1..32);
     accepts(&rt, &mut account, paying(3_000_000));
     let expected = [
         (1, Ok(165_000)),
@@ -162,7 +160,7 @@ fn close_november<S: Schedule>(rt: &impl Abort, account: &mut Account<S>) {
 }
 
 // Late charges behind the worked November, and behind a payment if it is not 0.
-fn behind_november(rt: &impl Abort, paid: i64, expected: &[(usize, Result<i64, u8>)]) {
+fn behind_november(rt: &impl Abort, paid: u64, expected: &[(usize, Result<i64, u8>)]) {
     let mut account = Account::new(FRANCHISE.on(Interim.on(SMALL)));
     close_november(rt, &mut account);
     accepts(rt, &mut account, CORRECTION);
@@ -205,7 +203,7 @@ fn refusals_in_their_order(rt: HostRuntime) {
     charges(&rt, &mut account, &[(0, Err(20)), (1, Err(20))]);
     accepts(&rt, &mut account, OPEN);
     charges(&rt, &mut account, &[(0, Err(30)), (1, Err(30))]);
-    close_idle(&rt, &mut account, 0, 30);
+    close_idle(&rt, &mut account, 0, 1..31);
     accepts(&rt, &mut account, paying(1));
     charges(
         &rt,
