@@ -3,6 +3,7 @@
 use Rattle.std.proofs.Common.{◌≡◌, ℕ, zero, suc, ◌+◌, ◌*◌, ◌/◌, ◌%◌, ◌^◌, ◌<◌, ◌≤◌, List, [], ◌∷◌}
 use Rattle.std.proofs.Common.{◌++◌, length, get_or, take, drop, sum, sym, refl, ap, ◌∙◌, ap₂}
 use Rattle.std.proofs.Common.{append_assoc, add_assoc, add-suc, arith, drop-cons, drop-drop}
+use Rattle.std.proofs.Common.{length-append}
 use Rattle.std.proofs.Common.{get_or-append-add, take-add}
 use Rattle.journal.specs.Numbers.{number_at, row_at, low_bytes, row_bytes, Fit}
 use Rattle.std.proofs.lemmas.List.Sums.{sum_by-cons}
@@ -14,6 +15,16 @@ Bytes bs = (i : ℕ) → get_or bs i 0 < 256
 length_low : (w n : ℕ) → length (low_bytes w n) ≡ w
 length_low zero n = refl
 length_low (suc w) n = ap suc (length_low w (n / 256))
+
+-- what is written by some widths is as long as they are together, so that reading by them does not
+-- find it cut short; no proof cites this, since the check finds it for each kind
+pub length_bytes : (ws ns : List ℕ) → Fit ws ns → length (row_bytes ws ns) ≡ sum ws
+length_bytes [] [] f = refl
+length_bytes [] (n ∷ ns) f = absurd f
+length_bytes (w ∷ ws) [] f = absurd f
+length_bytes (w ∷ ws) (n ∷ ns) f =
+    length-append (low_bytes w n) (row_bytes ws ns) ∙
+    ap₂ ◌+◌ (length_low w n) (length_bytes ws ns f.1) ∙ sym (sum_by-cons (λ (n : ℕ). n) w ws)
 
 number_behind :
     (xs ys : List ℕ) (i w : ℕ) → number_at (xs ++ ys) (length xs + i) w ≡ number_at ys i w
