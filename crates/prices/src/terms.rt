@@ -56,7 +56,8 @@ pub const WEATHER: Weather = Weather {
 /// The class on which most riders are shown: small dual fuel on Northern (`docs/TARIFF.md`).
 #[tactic(auto, unfolding(crate::specs::Cases::small))]
 pub fn small() -> Class<SmallDualFuel, Northern>
-    ensures { (⟦<Class<SmallDualFuel, Northern> as Schedule>⟧.tariff result).price ≡ small }
+    ensures annual { result.terms.annual.count ≡ 36500 }
+    ensures price { (⟦<Class<SmallDualFuel, Northern> as Schedule>⟧.tariff result).price ≡ small }
 {
     Class {
         terms: SmallDualFuel {

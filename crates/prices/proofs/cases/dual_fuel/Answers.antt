@@ -11,7 +11,7 @@ returns c =
       c.in_ok-price_table-3.ensures,
       c.in_ok-price_table-2.ensures,
       c.in_ok-price_table.ensures,
-      c.small.ensures,
-      c.small-2.ensures,
+      c.small.ensures.price,
+      c.small-2.ensures.price,
       c.large.ensures,
     ) (simp append_assoc)

@@ -18,8 +18,8 @@ returns c =
       c.on.ensures.below,
       c.on-weather.ensures.rider,
       c.on-weather.ensures.below,
-      c.small.ensures,
-      c.small-2.ensures,
-      c.small-3.ensures,
-      c.small-4.ensures,
+      c.small.ensures.price,
+      c.small-2.ensures.price,
+      c.small-3.ensures.price,
+      c.small-4.ensures.price,
     ) (simp append_assoc)

@@ -25,7 +25,7 @@ returns c =
       c.on.ensures.below,
       c.on-franchise.ensures.rider,
       c.on-franchise.ensures.below,
-      c.small.ensures,
-      c.small-2.ensures,
-      c.small-3.ensures,
+      c.small.ensures.price,
+      c.small-2.ensures.price,
+      c.small-3.ensures.price,
     ) (simp append_assoc)

@@ -6,7 +6,7 @@ returns c =
     rw (
       c.in_ok-price_table-2.ensures,
       c.in_ok-price_table.ensures,
-      c.small.ensures,
-      c.small-2.ensures,
+      c.small.ensures.price,
+      c.small-2.ensures.price,
       append_assoc,
     ) refl

@@ -19,8 +19,8 @@ returns c =
       c.on-interim.ensures.below,
       c.on-affordability.ensures.rider,
       c.on-affordability.ensures.below,
-      c.small.ensures,
-      c.small-2.ensures,
-      c.small-3.ensures,
+      c.small.ensures.price,
+      c.small-2.ensures.price,
+      c.small-3.ensures.price,
       c.large.ensures,
     ) (simp append_assoc)
